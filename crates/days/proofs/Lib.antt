@@ -1,0 +1,3 @@
+pub mod Conversions
+mod Months
+pub mod Weeks

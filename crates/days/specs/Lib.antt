@@ -1,0 +1,4 @@
+pub mod Dates
+pub mod Table
+pub mod Theorems
+pub mod Weekdays
