@@ -1,0 +1,4 @@
+pub mod Bounds
+pub mod Business
+pub mod Notice
+pub mod Theorems
