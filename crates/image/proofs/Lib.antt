@@ -1,0 +1,3 @@
+mod BigEndian
+mod Pinned
+pub mod Places

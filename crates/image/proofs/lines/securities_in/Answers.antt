@@ -1,0 +1,6 @@
+use Rattle.image.specs.Image.{imaged}
+use Rattle.image.proofs.lines.securities_in.Needs as need
+
+pub returns : need.returns
+unfolding imaged
+returns c = c .counts-in .ensures .securities

@@ -1,0 +1,5 @@
+pub mod Image
+pub mod Inner
+pub mod Theorems
+pub mod View
+pub mod Zero

@@ -1,0 +1,2 @@
+mod Movements
+mod Openings

@@ -1,0 +1,4 @@
+pub mod Inner
+pub mod Meaning
+pub mod Moved
+pub mod Opening

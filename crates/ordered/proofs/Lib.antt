@@ -1,0 +1,6 @@
+pub mod Ascending
+mod Insertion
+pub mod Moves
+pub mod Standing
+mod Steps
+mod Turns
