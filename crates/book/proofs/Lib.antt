@@ -1,0 +1,3 @@
+mod Answering
+mod Fits
+mod Going

@@ -1,0 +1,10 @@
+pub mod Calls
+pub mod Cover
+pub mod Custody
+pub mod Law
+pub mod Limits
+pub mod Matching
+pub mod Questions
+pub mod Runs
+pub mod Sound
+pub mod States

@@ -1,0 +1,4 @@
+mod Leftovers
+mod Onward
+mod Passes
+mod ZeroBytes
