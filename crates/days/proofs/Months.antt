@@ -9,7 +9,7 @@ use native.Mathlib.Numerals.{add-one}
 use native.Mathlib.Omega.{arith}
 use lib.Dec.{eqb}
 use lib.ListN.{length, getD}
-use Rattle.std.proofs.shelf.Tests.{and-parts, eqb-true, cases-eq, false≢true}
+use Rattle.std.proofs.shelf.Tests.{and-parts, eqb-true, cases-eq}
 use Rattle.std.proofs.shelf.Bits.{div-mul-add, mod-mul-add, div-add-mod', mod-below}
 use Rattle.days.specs.Dates.{leap, monthLength, yearLength, daysBeforeYear, daysBeforeMonth}
 use Rattle.days.specs.Table.{monthStart, lengthOf, steps, isMonthTable}

@@ -1,6 +1,6 @@
 -- The Gregorian calendar from 1 January 2000, which is day 0, to 31 December 2049. Nothing here uses the table of months.
 use Prim.Native.Nat.{ℕ, zero, suc, _+_, _-_, _/_, _%_}
-use mathlib.Core.Bool.{Bool, true, cond, not, _&&_, _||_}
+use mathlib.Core.Bool.{Bool, cond, not, _&&_, _||_}
 use mathlib.Core.List.{List, _++_}
 use lib.Chars.{codes}
 use lib.Dec.{eqb, leb, ltb}

@@ -1,11 +1,11 @@
 -- The changes of a register that keep a book sound.
-use mathlib.Core.Path.{_≡_, ap, _∙_}
+use mathlib.Core.Path.{_≡_, ap}
 use mathlib.Core.Bool.{true}
 use mathlib.Core.Logic.{⊎-elim}
 use Prim.Native.Nat.{ℕ, _+_, _-_, _≤_, _<_}
 use native.Mathlib.Omega.{arith}
 use Rattle.std.proofs.shelf.Tests.{cases-eq}
-use Rattle.register.specs.Holdings.{Holdings, theCap, credited, debited, totalOf}
+use Rattle.register.specs.Holdings.{theCap, credited, debited, totalOf}
 use Rattle.register.proofs.Changed.{line-most, total-credited, total-debited, total-elsewhere, total-moved}
 use Rattle.definitions.specs.Sound.{Sound}
 use Rattle.definitions.specs.States.{State, withHeld}
