@@ -5,8 +5,8 @@ use Rattle.days.proofs.Conversions.{start_end}
 use Rattle.days.proofs.table.month_length.Goals as goal
 use Rattle.days.proofs.table.month_length.Goals.{then-k-lt599, else-k-lt599}
 
-pub overflow-sub-result : goal.overflow-sub-result
-overflow-sub-result c =
+pub overflow_sub-result : goal.overflow_sub-result
+overflow_sub-result c =
     elim c.if-k-lt599.branch [
       | then-k-lt599 w ↦ omega (arith, w.next-is, start_more c.args.k)
       | else-k-lt599 w ↦

@@ -3,8 +3,8 @@ use Rattle.days.specs.Weekdays.{weekday_at}
 use Rattle.days.proofs.Weeks.{weekday_some, weekday_none}
 use Rattle.days.proofs.weekdays.weekday_of.Goals as goal
 
-pub returns-then-day-gt-LAST-DAY : goal.returns-then-day-gt-LAST-DAY
-returns-then-day-gt-LAST-DAY c = sym (weekday_none c.args.day (omega arith))
+pub returns-then-day-gt-LAST_DAY : goal.returns-then-day-gt-LAST_DAY
+returns-then-day-gt-LAST_DAY c = sym (weekday_none c.args.day (omega arith))
 
 pub returns-in-0 : goal.returns-in-0
 unfolding weekday_at
@@ -30,6 +30,6 @@ pub returns-in-5 : goal.returns-in-5
 unfolding weekday_at
 returns-in-5 c = sym (weekday_some c.args.day 5 (omega arith) (omega arith))
 
-pub returns-in-default : goal.returns-in-default
+pub returns-in_default : goal.returns-in_default
 unfolding weekday_at
-returns-in-default c = sym (weekday_some c.args.day 6 (omega arith) (omega arith))
+returns-in_default c = sym (weekday_some c.args.day 6 (omega arith) (omega arith))
