@@ -44,8 +44,8 @@ pub struct Book<R: Register, C: Calendar> {
 impl<R: Register, C: Calendar> Book<R, C> {
     /// A book on a register, a calendar and a day. Where the register is unfit or the day too late, every call is refused.
     pub fn open(register: R, calendar: C, day: u64) -> Book<R, C>
-        ensures state { state_of holdings result ≡ opening (holdings register) day }
-        ensures stands { Stands holdings result }
+        ensures state { state_of R.holdings result ≡ opening (R.holdings register) day }
+        ensures stands { Stands R.holdings result }
         ensures register { result.register ≡ register }
         ensures calendar { result.calendar ≡ calendar }
     {
@@ -81,32 +81,32 @@ impl<R: Register, C: Calendar> Book<R, C> {
 
     /// Makes a security eligible.
     pub fn admit(&mut self, security: u64) -> Result<(), Refusal>
-        requires { Stands holdings self.old }
-        ensures { Called holdings frame (calls.Admit security) tt self.old self.new result }
+        requires { Stands R.holdings self.old }
+        ensures { Called R.holdings R.frame (calls.Admit security) tt self.old self.new result }
     {
         listing::admit::admit(&mut self.ledger, &self.register, security)
     }
 
     /// Ends a security's eligibility, and takes out its requests.
     pub fn stop(&mut self, security: u64) -> Result<(), Refusal>
-        requires { Stands holdings self.old }
-        ensures { Called holdings frame (calls.Stop security) tt self.old self.new result }
+        requires { Stands R.holdings self.old }
+        ensures { Called R.holdings R.frame (calls.Stop security) tt self.old self.new result }
     {
         listing::stop::stop(&mut self.ledger, &mut self.register, security)
     }
 
     /// Posts a price of a security, in force from the next close.
     pub fn price(&mut self, security: u64, cents: u64) -> Result<(), Refusal>
-        requires { Stands holdings self.old }
-        ensures { Called holdings frame (calls.Price security cents) tt self.old self.new result }
+        requires { Stands R.holdings self.old }
+        ensures { Called R.holdings R.frame (calls.Price security cents) tt self.old self.new result }
     {
         listing::price::price(&mut self.ledger, &self.register, security, cents)
     }
 
     /// Brings shares onto a line.
     pub fn deposit(&mut self, account: u64, security: u64, quantity: u64) -> Result<(), Refusal>
-        requires { Stands holdings self.old }
-        ensures { Called holdings frame (calls.Deposit account security quantity) tt self.old self.new result }
+        requires { Stands R.holdings self.old }
+        ensures { Called R.holdings R.frame (calls.Deposit account security quantity) tt self.old self.new result }
     {
         custody::deposit::deposit(
             &self.ledger,
@@ -119,8 +119,8 @@ impl<R: Register, C: Calendar> Book<R, C> {
 
     /// Takes free shares from a line.
     pub fn withdraw(&mut self, account: u64, security: u64, quantity: u64) -> Result<(), Refusal>
-        requires { Stands holdings self.old }
-        ensures { Called holdings frame (calls.Withdraw account security quantity) tt self.old self.new result }
+        requires { Stands R.holdings self.old }
+        ensures { Called R.holdings R.frame (calls.Withdraw account security quantity) tt self.old self.new result }
     {
         custody::withdraw::withdraw(
             &self.ledger,
@@ -139,8 +139,8 @@ impl<R: Register, C: Calendar> Book<R, C> {
         security: u64,
         quantity: u64,
     ) -> Result<(), Refusal>
-        requires { Stands holdings self.old }
-        ensures { Called holdings frame (calls.Trade giver receiver security quantity) tt self.old self.new result }
+        requires { Stands R.holdings self.old }
+        ensures { Called R.holdings R.frame (calls.Trade giver receiver security quantity) tt self.old self.new result }
     {
         custody::trade::trade(
             &self.ledger,
@@ -154,40 +154,40 @@ impl<R: Register, C: Calendar> Book<R, C> {
 
     /// Adds to an agent's collateral of a kind.
     pub fn pledge(&mut self, agent: u64, kind: u64, cents: u64) -> Result<(), Refusal>
-        requires { Stands holdings self.old }
-        ensures { Called holdings frame (calls.Pledge agent kind cents) tt self.old self.new result }
+        requires { Stands R.holdings self.old }
+        ensures { Called R.holdings R.frame (calls.Pledge agent kind cents) tt self.old self.new result }
     {
         agents::pledge::pledge(&mut self.ledger, agent, kind, cents)
     }
 
     /// Takes from an agent's collateral of a kind.
     pub fn unpledge(&mut self, agent: u64, kind: u64, cents: u64) -> Result<(), Refusal>
-        requires { Stands holdings self.old }
-        ensures { Called holdings frame (calls.Unpledge agent kind cents) tt self.old self.new result }
+        requires { Stands R.holdings self.old }
+        ensures { Called R.holdings R.frame (calls.Unpledge agent kind cents) tt self.old self.new result }
     {
         agents::unpledge::unpledge(&mut self.ledger, agent, kind, cents)
     }
 
     /// Suspends an agent.
     pub fn suspend(&mut self, agent: u64) -> Result<(), Refusal>
-        requires { Stands holdings self.old }
-        ensures { Called holdings frame (calls.Suspend agent) tt self.old self.new result }
+        requires { Stands R.holdings self.old }
+        ensures { Called R.holdings R.frame (calls.Suspend agent) tt self.old self.new result }
     {
         agents::suspend::suspend(&mut self.ledger, agent)
     }
 
     /// Decides on the agents that were notified, and answers how many it suspended.
     pub fn noon(&mut self) -> Result<u64, Refusal>
-        requires { Stands holdings self.old }
-        ensures { Called holdings frame calls.Noon (suspensions (state_of holdings self.old).kept) self.old self.new result }
+        requires { Stands R.holdings self.old }
+        ensures { Called R.holdings R.frame calls.Noon (suspensions (state_of R.holdings self.old).kept) self.old self.new result }
     {
         agents::noon::noon(&mut self.ledger)
     }
 
     /// Puts any call to the book.
     pub fn execute(&mut self, call: Call) -> Result<Answer, Refusal>
-        requires { Stands holdings self.old }
-        ensures { Executed holdings frame call self.old self.new result }
+        requires { Stands R.holdings self.old }
+        ensures { Executed R.holdings R.frame call self.old self.new result }
     {
         match call {
             Call::Admit { security } => done(self.admit(security)),

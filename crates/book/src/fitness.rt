@@ -14,14 +14,14 @@ const MOST_SECURITIES: usize = 16;
 
 // Whether a security has nothing reserved and no more shares than the cap.
 fn is_security_fit<R: Register>(register: &R, security: usize) -> bool
-    ensures { result ≡ (sum_reserved (holdings register.now) security == 0 && nat_le (total_of (holdings register.now) security) the_cap) }
+    ensures { result ≡ (sum_reserved (R.holdings register.now) security == 0 && nat_le (total_of (R.holdings register.now) security) the_cap) }
 {
     none_reserved(register, security) && total_within_cap(register, security).is_some()
 }
 
 // 1 to 64 accounts, 1 to 16 securities, nothing reserved, and at most the cap in shares of each security.
 fn is_fit<R: Register>(register: &R) -> bool
-    ensures { result ≡ fit (holdings register.now) }
+    ensures { result ≡ fit (R.holdings register.now) }
 {
     let accounts = register.accounts();
     let securities = register.securities();
@@ -38,7 +38,7 @@ fn is_fit<R: Register>(register: &R) -> bool
 
 // Whether a book may be opened on the register and the day.
 pub(crate) fn may_open<R: Register>(register: &R, day: u64) -> bool
-    ensures { result ≡ (fit (holdings register.now) && nat_le day last_opening) }
+    ensures { result ≡ (fit (R.holdings register.now) && nat_le day last_opening) }
 {
     is_fit(register) && day <= LAST_OPENING
 }

@@ -9,7 +9,7 @@ const TENTH: u8 = 10;
 
 /// The tenth business day after today, which is not counted itself: `None` if there is none up to the last day.
 pub fn tenth_business_day<C: Calendar>(calendar: &C, today: u64) -> Option<u64>
-    ensures { Tenth (business calendar.now) today result }
+    ensures { Tenth (C.business calendar.now) today result }
 {
     let mut day = today;
     let mut count = 0u8;

@@ -33,8 +33,8 @@ fn need_for(ledger: &Ledger, agent: usize, exposure: Exposure) -> u64
 fn need_for_all<T: Exposed>(ledger: &Ledger, agent: usize, places: &[Option<T>]) -> u64
     requires kempt { Kempt ledger.now }
     requires few { length places.now ≤ 128 }
-    requires ranged { All (λ x. ExposureRanged (exposes x)) (records places.now) }
-    ensures value { result ≡ total (λ x. need_for (kept_of ledger.now) agent (exposes x)) (records places.now) }
+    requires ranged { All (λ x. ExposureRanged (T.exposes x)) (records places.now) }
+    ensures value { result ≡ total (λ x. need_for (kept_of ledger.now) agent (T.exposes x)) (records places.now) }
     ensures bound { result ≤ 128 * need_of most_quantity most_price }
 {
     let mut sum = 0;

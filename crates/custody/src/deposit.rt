@@ -18,10 +18,10 @@ pub fn deposit<R: Register>(
     security: u64,
     quantity: u64,
 ) -> Result<(), Refusal>
-    requires { Sound (state (holdings register.old) ledger.now) }
-    ensures step { Step (deposit_asks (state (holdings register.old) ledger.now) account security quantity) tt (deposit_does (state (holdings register.old) ledger.now) account security quantity) (state (holdings register.old) ledger.now) (state (holdings register.new) ledger.now) result }
-    ensures sound { Sound (state (holdings register.new) ledger.now) }
-    ensures frame { frame register.new ≡ frame register.old }
+    requires { Sound (state (R.holdings register.old) ledger.now) }
+    ensures step { Step (deposit_asks (state (R.holdings register.old) ledger.now) account security quantity) tt (deposit_does (state (R.holdings register.old) ledger.now) account security quantity) (state (R.holdings register.old) ledger.now) (state (R.holdings register.new) ledger.now) result }
+    ensures sound { Sound (state (R.holdings register.new) ledger.now) }
+    ensures frame { R.frame register.new ≡ R.frame register.old }
 {
     if !ledger.opened {
         return Err(Refusal::Unopened);

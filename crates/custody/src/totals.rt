@@ -6,7 +6,7 @@ use register::{CAP, Register};
 
 /// The free and reserved shares of a security over all accounts: `None` where they pass the cap.
 pub fn total_within_cap<R: Register>(register: &R, security: usize) -> Option<u64>
-    ensures { result ≡ (if nat_le (total_of (holdings register.now) security) the_cap then Some (total_of (holdings register.now) security) else None) }
+    ensures { result ≡ (if nat_le (total_of (R.holdings register.now) security) the_cap then Some (total_of (R.holdings register.now) security) else None) }
 {
     let mut sum = 0;
     for account in 0..register.accounts() {
@@ -25,7 +25,7 @@ pub fn total_within_cap<R: Register>(register: &R, security: usize) -> Option<u6
 
 /// Whether no share of a security is reserved on any account.
 pub fn none_reserved<R: Register>(register: &R, security: usize) -> bool
-    ensures { result ≡ (sum_reserved (holdings register.now) security == 0) }
+    ensures { result ≡ (sum_reserved (R.holdings register.now) security == 0) }
 {
     for account in 0..register.accounts() {
         if register.reserved(account, security) > 0 {

@@ -18,10 +18,10 @@ pub fn trade<R: Register>(
     security: u64,
     quantity: u64,
 ) -> Result<(), Refusal>
-    requires { Sound (state (holdings register.old) ledger.now) }
-    ensures step { Step (trade_asks (state (holdings register.old) ledger.now) giver receiver security quantity) tt (trade_does (state (holdings register.old) ledger.now) giver receiver security quantity) (state (holdings register.old) ledger.now) (state (holdings register.new) ledger.now) result }
-    ensures sound { Sound (state (holdings register.new) ledger.now) }
-    ensures frame { frame register.new ≡ frame register.old }
+    requires { Sound (state (R.holdings register.old) ledger.now) }
+    ensures step { Step (trade_asks (state (R.holdings register.old) ledger.now) giver receiver security quantity) tt (trade_does (state (R.holdings register.old) ledger.now) giver receiver security quantity) (state (R.holdings register.old) ledger.now) (state (R.holdings register.new) ledger.now) result }
+    ensures sound { Sound (state (R.holdings register.new) ledger.now) }
+    ensures frame { R.frame register.new ≡ R.frame register.old }
 {
     if !ledger.opened {
         return Err(Refusal::Unopened);

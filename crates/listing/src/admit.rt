@@ -10,9 +10,9 @@ use terms::ledger::Ledger;
 
 /// Questions: opened, security, and it is not eligible yet.
 pub fn admit<R: Register>(ledger: &mut Ledger, register: &R, security: u64) -> Result<(), Refusal>
-    requires { Upheld (holdings register.now) ledger.old }
-    ensures step { Step (admit_asks (state (holdings register.now) ledger.old) security) tt (admit_does (state (holdings register.now) ledger.old) security) (state (holdings register.now) ledger.old) (state (holdings register.now) ledger.new) result }
-    ensures upheld { Upheld (holdings register.now) ledger.new }
+    requires { Upheld (R.holdings register.now) ledger.old }
+    ensures step { Step (admit_asks (state (R.holdings register.now) ledger.old) security) tt (admit_does (state (R.holdings register.now) ledger.old) security) (state (R.holdings register.now) ledger.old) (state (R.holdings register.now) ledger.new) result }
+    ensures upheld { Upheld (R.holdings register.now) ledger.new }
 {
     if !ledger.opened {
         return Err(Refusal::Unopened);

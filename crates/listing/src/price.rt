@@ -17,9 +17,9 @@ pub fn price<R: Register>(
     security: u64,
     cents: u64,
 ) -> Result<(), Refusal>
-    requires { Upheld (holdings register.now) ledger.old }
-    ensures step { Step (price_asks (state (holdings register.now) ledger.old) security cents) tt (price_does (state (holdings register.now) ledger.old) security cents) (state (holdings register.now) ledger.old) (state (holdings register.now) ledger.new) result }
-    ensures upheld { Upheld (holdings register.now) ledger.new }
+    requires { Upheld (R.holdings register.now) ledger.old }
+    ensures step { Step (price_asks (state (R.holdings register.now) ledger.old) security cents) tt (price_does (state (R.holdings register.now) ledger.old) security cents) (state (R.holdings register.now) ledger.old) (state (R.holdings register.now) ledger.new) result }
+    ensures upheld { Upheld (R.holdings register.now) ledger.new }
 {
     if !ledger.opened {
         return Err(Refusal::Unopened);

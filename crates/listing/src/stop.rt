@@ -17,10 +17,10 @@ pub fn stop<R: Register>(
     register: &mut R,
     security: u64,
 ) -> Result<(), Refusal>
-    requires { Upheld (holdings register.old) ledger.old }
-    ensures step { Step (stop_asks (state (holdings register.old) ledger.old) security) tt (stop_does (state (holdings register.old) ledger.old) security) (state (holdings register.old) ledger.old) (state (holdings register.new) ledger.new) result }
-    ensures upheld { Upheld (holdings register.new) ledger.new }
-    ensures frame { frame register.new ≡ frame register.old }
+    requires { Upheld (R.holdings register.old) ledger.old }
+    ensures step { Step (stop_asks (state (R.holdings register.old) ledger.old) security) tt (stop_does (state (R.holdings register.old) ledger.old) security) (state (R.holdings register.old) ledger.old) (state (R.holdings register.new) ledger.new) result }
+    ensures upheld { Upheld (R.holdings register.new) ledger.new }
+    ensures frame { R.frame register.new ≡ R.frame register.old }
 {
     if !ledger.opened {
         return Err(Refusal::Unopened);

@@ -27,7 +27,7 @@ impl<'a, T: Ranked + Drop> OrderedList<'a, T> {
     /// An empty list: what the memory held is dropped.
     pub fn empty(places: &'a mut [Option<T>]) -> Self
         ensures none { records result.places.now ≡ [] }
-        ensures stays { Ordered precedes result.places.now }
+        ensures stays { Ordered T.precedes result.places.now }
         ensures long { length result.places.now ≡ length places.old }
         ensures lent { result.places.ghost_name ≡ places.entry.ghost_name }
     {
@@ -59,7 +59,7 @@ impl<'a, T: Ranked + Drop> OrderedList<'a, T> {
 
     /// The record at a place; `None` where the place is empty.
     pub fn get(&self, place: usize) -> Option<&T>
-        requires { Ordered precedes self.now.places.now }
+        requires { Ordered T.precedes self.now.places.now }
         ensures { option_map (λ x. x.now) result ≡ slice_get (records self.now.places.now) place }
     {
         record_at(self.places, place)
@@ -67,8 +67,8 @@ impl<'a, T: Ranked + Drop> OrderedList<'a, T> {
 
     /// Puts a record in where it belongs. Refused where one equal to it in the order stands there, or else where no place is empty.
     pub fn put(&mut self, item: T) -> Result<(), PutRefusal>
-        requires { Ordered precedes self.old.places.now }
-        ensures put { Put precedes item self.old.places.now result self.new.places.now }
+        requires { Ordered T.precedes self.old.places.now }
+        ensures put { Put T.precedes item self.old.places.now result self.new.places.now }
         ensures long { length self.new.places.now ≡ length self.old.places.now }
         ensures lent { self.new.places.ghost_name ≡ self.old.places.ghost_name }
     {
@@ -77,8 +77,8 @@ impl<'a, T: Ranked + Drop> OrderedList<'a, T> {
 
     /// Takes out the record at a place; `None` where the place is empty.
     pub fn take(&mut self, place: usize) -> Option<T>
-        requires { Ordered precedes self.old.places.now }
-        ensures taken { Taken precedes place self.old.places.now result self.new.places.now }
+        requires { Ordered T.precedes self.old.places.now }
+        ensures taken { Taken T.precedes place self.old.places.now result self.new.places.now }
         ensures long { length self.new.places.now ≡ length self.old.places.now }
         ensures lent { self.new.places.ghost_name ≡ self.old.places.ghost_name }
     {
@@ -87,8 +87,8 @@ impl<'a, T: Ranked + Drop> OrderedList<'a, T> {
 
     /// Writes a record over the one at a place, and answers that one, if the two are equal in the order; `None`, with nothing changed, if they are not or the place is empty.
     pub fn replace(&mut self, place: usize, item: T) -> Option<T>
-        requires { Ordered precedes self.old.places.now }
-        ensures replaced { Replaced precedes place item self.old.places.now result self.new.places.now }
+        requires { Ordered T.precedes self.old.places.now }
+        ensures replaced { Replaced T.precedes place item self.old.places.now result self.new.places.now }
         ensures long { length self.new.places.now ≡ length self.old.places.now }
         ensures lent { self.new.places.ghost_name ≡ self.old.places.ghost_name }
     {
@@ -97,10 +97,10 @@ impl<'a, T: Ranked + Drop> OrderedList<'a, T> {
 
     /// Takes out every record that passes a test, and answers how many they were; the others stay in their order.
     pub fn remove_those<P: Test<T>>(&mut self, test: &P) -> usize
-        requires { Ordered precedes self.old.places.now }
-        ensures removed { records self.new.places.now ≡ others (passes test.now) (records self.old.places.now) }
-        ensures count { result ≡ length (those (passes test.now) (records self.old.places.now)) }
-        ensures stays { Ordered precedes self.new.places.now }
+        requires { Ordered T.precedes self.old.places.now }
+        ensures removed { records self.new.places.now ≡ others (P.passes test.now) (records self.old.places.now) }
+        ensures count { result ≡ length (those (P.passes test.now) (records self.old.places.now)) }
+        ensures stays { Ordered T.precedes self.new.places.now }
         ensures long { length self.new.places.now ≡ length self.old.places.now }
         ensures lent { self.new.places.ghost_name ≡ self.old.places.ghost_name }
     {

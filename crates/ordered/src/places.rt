@@ -15,7 +15,7 @@ use crate::selection::Test;
 // Empties every place.
 pub(crate) fn clear<T: Ranked + Drop>(places: &mut [Option<T>])
     ensures none { records places.new ≡ [] }
-    ensures stays { Ordered precedes places.new }
+    ensures stays { Ordered T.precedes places.new }
 {
     for place in places.iter_mut() {
         *place = None;
@@ -48,7 +48,7 @@ pub(crate) fn is_full<T>(places: &[Option<T>]) -> bool
 
 // The record at a place.
 pub(crate) fn record_at<T: Ranked>(places: &[Option<T>], place: usize) -> Option<&T>
-    requires { Ordered precedes places.now }
+    requires { Ordered T.precedes places.now }
     ensures { option_map (λ x. x.now) result ≡ slice_get (records places.now) place }
 {
     if place < places.len() {
@@ -60,14 +60,14 @@ pub(crate) fn record_at<T: Ranked>(places: &[Option<T>], place: usize) -> Option
 
 // Whether two records are equal in the order.
 fn is_alike<T: Ranked>(a: &T, b: &T) -> bool
-    ensures { result ≡ alike precedes a.now b.now }
+    ensures { result ≡ alike T.precedes a.now b.now }
 {
     !a.before(b) && !b.before(a)
 }
 
 // Whether a place holds a record that comes before another.
 fn holds_before<T: Ranked>(place: &Option<T>, item: &T) -> bool
-    ensures { result ≡ held_before precedes item.now place.now }
+    ensures { result ≡ held_before T.precedes item.now place.now }
 {
     match place {
         Some(held) => held.before(item),
@@ -77,8 +77,8 @@ fn holds_before<T: Ranked>(place: &Option<T>, item: &T) -> bool
 
 // Whether the record at a place is equal in the order to another.
 fn is_equal_at<T: Ranked>(places: &[Option<T>], place: usize, item: &T) -> bool
-    requires { Ordered precedes places.now }
-    ensures { result ≡ equal_to precedes item.now (slice_get (records places.now) place) }
+    requires { Ordered T.precedes places.now }
+    ensures { result ≡ equal_to T.precedes item.now (slice_get (records places.now) place) }
 {
     match record_at(places, place) {
         Some(held) => is_alike(item, held),
@@ -88,7 +88,7 @@ fn is_equal_at<T: Ranked>(places: &[Option<T>], place: usize, item: &T) -> bool
 
 // How many records come before an item: the place where it belongs.
 fn rank_of<T: Ranked>(places: &[Option<T>], item: &T) -> usize
-    ensures { result ≡ rank precedes item.now (records places.now) }
+    ensures { result ≡ rank T.precedes item.now (records places.now) }
 {
     for (at, place) in places.iter().enumerate() {
         if !holds_before(place, item) {
@@ -100,17 +100,17 @@ fn rank_of<T: Ranked>(places: &[Option<T>], item: &T) -> usize
 
 // Whether a record equal in the order stands there: it would stand where the item belongs.
 fn is_present<T: Ranked>(places: &[Option<T>], at: usize, item: &T) -> bool
-    requires ordered { Ordered precedes places.now }
-    requires belongs { at ≡ rank precedes item.now (records places.now) }
-    ensures { result ≡ present precedes item.now (records places.now) }
+    requires ordered { Ordered T.precedes places.now }
+    requires belongs { at ≡ rank T.precedes item.now (records places.now) }
+    ensures { result ≡ present T.precedes item.now (records places.now) }
 {
     is_equal_at(places, at, item)
 }
 
 // The place where an item can be put in, or why it is refused.
 fn place_for<T: Ranked>(places: &[Option<T>], item: &T) -> Result<usize, PutRefusal>
-    requires { Ordered precedes places.now }
-    ensures { MatchResult result (λ at. Fits precedes item.now places.now at) (λ e. Err e ≡ put_answer precedes item.now places.now) }
+    requires { Ordered T.precedes places.now }
+    ensures { MatchResult result (λ at. Fits T.precedes item.now places.now at) (λ e. Err e ≡ put_answer T.precedes item.now places.now) }
 {
     let at = rank_of(places, item);
     if is_present(places, at, item) {
@@ -124,9 +124,9 @@ fn place_for<T: Ranked>(places: &[Option<T>], item: &T) -> Result<usize, PutRefu
 
 // Puts a record in at its place, and moves those from there on back by one.
 fn open_at<T: Ranked + Drop>(places: &mut [Option<T>], at: usize, item: T)
-    requires ordered { Ordered precedes places.old }
-    requires fits { Fits precedes item places.old at }
-    ensures { Put precedes item places.old (Ok tt) places.new }
+    requires ordered { Ordered T.precedes places.old }
+    requires fits { Fits T.precedes item places.old at }
+    ensures { Put T.precedes item places.old (Ok tt) places.new }
 {
     let rest = &mut places[at..];
     rest.rotate_right(1);
@@ -135,9 +135,9 @@ fn open_at<T: Ranked + Drop>(places: &mut [Option<T>], at: usize, item: T)
 
 // Takes out what stands at a place, and moves those behind it up by one.
 fn close_at<T: Ranked + Drop>(places: &mut [Option<T>], at: usize) -> Option<T>
-    requires ordered { Ordered precedes places.old }
+    requires ordered { Ordered T.precedes places.old }
     requires within { at < length places.old }
-    ensures { Taken precedes at places.old result places.new }
+    ensures { Taken T.precedes at places.old result places.new }
 {
     let rest = &mut places[at..];
     let taken = rest[0].take();
@@ -156,8 +156,8 @@ fn write_at<T: Drop>(places: &mut [Option<T>], place: usize, item: T) -> Option<
 
 // Puts a record in where it belongs.
 pub(crate) fn put_in<T: Ranked + Drop>(places: &mut [Option<T>], item: T) -> Result<(), PutRefusal>
-    requires { Ordered precedes places.old }
-    ensures { Put precedes item places.old result places.new }
+    requires { Ordered T.precedes places.old }
+    ensures { Put T.precedes item places.old result places.new }
 {
     let at = place_for(places, &item)?;
     open_at(places, at, item);
@@ -166,8 +166,8 @@ pub(crate) fn put_in<T: Ranked + Drop>(places: &mut [Option<T>], item: T) -> Res
 
 // Takes out the record at a place.
 pub(crate) fn take_out<T: Ranked + Drop>(places: &mut [Option<T>], place: usize) -> Option<T>
-    requires { Ordered precedes places.old }
-    ensures { Taken precedes place places.old result places.new }
+    requires { Ordered T.precedes places.old }
+    ensures { Taken T.precedes place places.old result places.new }
 {
     if place < places.len() {
         close_at(places, place)
@@ -182,8 +182,8 @@ pub(crate) fn write_over<T: Ranked + Drop>(
     place: usize,
     item: T,
 ) -> Option<T>
-    requires { Ordered precedes places.old }
-    ensures { Replaced precedes place item places.old result places.new }
+    requires { Ordered T.precedes places.old }
+    ensures { Replaced T.precedes place item places.old result places.new }
 {
     if !is_equal_at(places, place, &item) {
         return None;
@@ -193,7 +193,7 @@ pub(crate) fn write_over<T: Ranked + Drop>(
 
 // Whether a place holds a record that does not pass a test.
 fn is_staying<T, P: Test<T>>(place: &Option<T>, test: &P) -> bool
-    ensures { result ≡ staying (passes test.now) place.now }
+    ensures { result ≡ staying (P.passes test.now) place.now }
 {
     match place {
         Some(held) => !test.admits(held),
@@ -203,7 +203,7 @@ fn is_staying<T, P: Test<T>>(place: &Option<T>, test: &P) -> bool
 
 // Moves the records that do not pass a test to the front, in their order, and answers how many they are.
 fn gather<T: Drop, P: Test<T>>(places: &mut [Option<T>], test: &P) -> usize
-    ensures front { take result places.new ≡ filter (staying (passes test.now)) places.old }
+    ensures front { take result places.new ≡ filter (staying (P.passes test.now)) places.old }
     ensures within { result ≤ length places.new }
 {
     let mut to = 0;
@@ -221,10 +221,10 @@ pub(crate) fn remove_those<T: Ranked + Drop, P: Test<T>>(
     places: &mut [Option<T>],
     test: &P,
 ) -> usize
-    requires { Ordered precedes places.old }
-    ensures removed { records places.new ≡ others (passes test.now) (records places.old) }
-    ensures count { result ≡ length (those (passes test.now) (records places.old)) }
-    ensures stays { Ordered precedes places.new }
+    requires { Ordered T.precedes places.old }
+    ensures removed { records places.new ≡ others (P.passes test.now) (records places.old) }
+    ensures count { result ≡ length (those (P.passes test.now) (records places.old)) }
+    ensures stays { Ordered T.precedes places.new }
 {
     let before = count(places);
     let after = gather(places, test);

@@ -15,7 +15,7 @@ use steps::{Step, apply};
 
 // Prints how many records a list has, and each of them.
 fn show<T: Ranked + Display + Drop>(rt: &HostRuntime, list: &OrderedList<T>) -> io::Result<()>
-    requires { Ordered precedes list.now.places.now }
+    requires { Ordered T.precedes list.now.places.now }
 {
     let count = list.len();
     let full = if list.is_full() { ", full" } else { "" };

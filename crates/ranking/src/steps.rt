@@ -24,9 +24,9 @@ pub enum Answer<T> {
 
 /// Does one step.
 pub fn apply<T: Ranked + Drop>(list: &mut OrderedList<T>, step: Step<T>) -> Answer<T>
-    requires { Ordered precedes list.old.places.now }
-    ensures done { Done precedes step list.old.places.now result list.new.places.now }
-    ensures stays { Ordered precedes list.new.places.now }
+    requires { Ordered T.precedes list.old.places.now }
+    ensures done { Done T.precedes step list.old.places.now result list.new.places.now }
+    ensures stays { Ordered T.precedes list.new.places.now }
     ensures long { length list.new.places.now ≡ length list.old.places.now }
     ensures lent { list.new.places.ghost_name ≡ list.old.places.ghost_name }
 {

@@ -42,8 +42,8 @@ pub fn line_of(change: Change) -> Line
 
 /// Puts a change to a register.
 pub fn put<R: Register>(register: &mut R, change: Change) -> Answer
-    ensures answer { Answered (holdings register.old) change result (holdings register.new) }
-    ensures frame { frame register.new ≡ frame register.old }
+    ensures answer { Answered (R.holdings register.old) change result (R.holdings register.new) }
+    ensures frame { R.frame register.new ≡ R.frame register.old }
 {
     let outcome = match change {
         Change::Credit(line, shares) => register.credit(line.account, line.security, shares),

@@ -10,8 +10,8 @@ use register::Register;
 
 /// Puts each change to the register, one after the other.
 pub fn put_all<R: Register>(register: &mut R, changes: &[Change; COUNT]) -> [Answer; COUNT]
-    ensures run { Runs (holdings register.old) changes.now result (holdings register.new) }
-    ensures frame { frame register.new ≡ frame register.old }
+    ensures run { Runs (R.holdings register.old) changes.now result (R.holdings register.new) }
+    ensures frame { R.frame register.new ≡ R.frame register.old }
 {
     let none = Answer {
         accepted: false,

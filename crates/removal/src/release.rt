@@ -13,9 +13,9 @@ use terms::records::LendingRequest;
 
 // Releases what is left of a request, if it leaves.
 fn release_one<R: Register>(lending: &LendingRequest, register: &mut R, leaving: Leaving)
-    requires { Releasable (holdings register.old) lending.now.request.account lending.now.request.security lending.now.request.left }
-    ensures holds { holdings register.new ≡ (if lending_leaves leaving lending.now then released (holdings register.old) lending.now.request.account lending.now.request.security lending.now.request.left else holdings register.old) }
-    ensures frame { frame register.new ≡ frame register.old }
+    requires { Releasable (R.holdings register.old) lending.now.request.account lending.now.request.security lending.now.request.left }
+    ensures holds { R.holdings register.new ≡ (if lending_leaves leaving lending.now then released (R.holdings register.old) lending.now.request.account lending.now.request.security lending.now.request.left else R.holdings register.old) }
+    ensures frame { R.frame register.new ≡ R.frame register.old }
 {
     let request = lending.request;
     if leaving.takes(&request)
@@ -33,9 +33,9 @@ pub(crate) fn release_those<R: Register>(
     register: &mut R,
     leaving: Leaving,
 )
-    requires { Lent (holdings register.old) (records places.now) }
-    ensures holds { holdings register.new ≡ released_all (holdings register.old) (those (lending_leaves leaving) (records places.now)) }
-    ensures frame { frame register.new ≡ frame register.old }
+    requires { Lent (R.holdings register.old) (records places.now) }
+    ensures holds { R.holdings register.new ≡ released_all (R.holdings register.old) (those (lending_leaves leaving) (records places.now)) }
+    ensures frame { R.frame register.new ≡ R.frame register.old }
 {
     for place in places {
         let Some(lending) = place else {

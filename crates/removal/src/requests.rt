@@ -20,12 +20,12 @@ pub fn remove_requests<R: Register>(
     leaving: Leaving,
 ) -> usize
     requires neat { Neat ledger.old }
-    requires borne { Borne (state (holdings register.old) ledger.old) }
-    ensures leaves { state (holdings register.new) ledger.new ≡ taken_out (leaves leaving) (state (holdings register.old) ledger.old) }
+    requires borne { Borne (state (R.holdings register.old) ledger.old) }
+    ensures leaves { state (R.holdings register.new) ledger.new ≡ taken_out (leaves leaving) (state (R.holdings register.old) ledger.old) }
     ensures count { result ≡ length (those (lending_leaves leaving) (records ledger.old.requests.lending)) + length (those (borrowing_leaves leaving) (records ledger.old.requests.borrowing)) }
     ensures neat { Neat ledger.new }
-    ensures borne { Borne (state (holdings register.new) ledger.new) }
-    ensures frame { frame register.new ≡ frame register.old }
+    ensures borne { Borne (state (R.holdings register.new) ledger.new) }
+    ensures frame { R.frame register.new ≡ R.frame register.old }
 {
     release_those(&ledger.requests.lending, register, leaving);
     let lending = OrderedList::over(&mut ledger.requests.lending).remove_those(&leaving);
