@@ -7,19 +7,19 @@ loop-day-init g c = (omega arith, omega arith, count_none _ _ c.args.today (omeg
 
 pub returns-then-count-eq-TENTH : goal.returns-then-count-eq-TENTH
 returns-then-count-eq-TENTH g c =
-    let e = sym c.if-is-business.ensures in
+    let e = sym c.if-is_business.ensures in
     let b = g.C.Calendar.business c.args.calendar.now in
     (omega arith, omega arith, e, omega (arith, count_yes b c.args.today c.loop-day.day c.loop-day.invariant.0 e))
 
 pub loop-day-preserved-else-count-eq-TENTH : goal.loop-day-preserved-else-count-eq-TENTH
 loop-day-preserved-else-count-eq-TENTH g c =
-    let e = sym c.if-is-business.ensures in
+    let e = sym c.if-is_business.ensures in
     let b = g.C.Calendar.business c.args.calendar.now in
     (omega arith, omega arith, omega (arith, count_yes b c.args.today c.loop-day.day c.loop-day.invariant.0 e))
 
 pub loop-day-preserved : goal.loop-day-preserved
 loop-day-preserved g c =
-    let e = sym c.if-is-business.ensures in
+    let e = sym c.if-is_business.ensures in
     let b = g.C.Calendar.business c.args.calendar.now in
     (omega arith, omega arith, omega (arith, count_no b c.args.today c.loop-day.day c.loop-day.invariant.0 e))
 
