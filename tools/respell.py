@@ -82,8 +82,16 @@ def own_names(paths):
 KIT = {"std", "core", "io", "std_alloc", "std_collections", "std_heap", "std_io"}
 
 
-# Where the snake case form is the name of a field.
-APART = {"freeAt": "free_place", "reservedAt": "reserved_place"}
+# Where the snake case form is the name of a field; and fields, for which a function of that name is no hindrance.
+APART = {
+    "freeAt": "free_place",
+    "reservedAt": "reserved_place",
+    "free-at": "free_at",
+    "reserved-at": "reserved_at",
+    "few-accounts": "few_accounts",
+    "few-securities": "few_securities",
+    "account-fits": "account_fits",
+}
 
 
 def respelt(name, own, borrowed, taken):

@@ -73,8 +73,8 @@ module _ (bs cs : List ℕ) (at v : ℕ) (st : Stored bs cs at v) (behind : 4 �
       record {
         account = omega (arith, accounts_same, f.account);
         security = omega (arith, securities_same, f.security);
-        free_at_lem = f.free_at_lem ∙ sym (free_at_same l.account l.security);
-        reserved_at_lem = f.reserved_at_lem ∙ sym (reserved_at_same l.account l.security);
+        free_at = f.free_at ∙ sym (free_at_same l.account l.security);
+        reserved_at = f.reserved_at ∙ sym (reserved_at_same l.account l.security);
         free_room = omega (arith, st.len, f.free_room);
         reserved_room = omega (arith, st.len, f.reserved_room);
       }
@@ -153,32 +153,32 @@ module _ (bs cs : List ℕ) (a s v : ℕ) (within : Inside (imaged bs) a s) wher
       (λ i. ap (u64_at cs) (reserved_at_same bs cs at v st (omega arith) b t) ∙ number_same bs cs (m + (a * n + s)) v (m + (b * n + t)) st (λ e. lines_apart n a s b t within.1 (inside_true bs b t i).1 ne (omega arith)))))
 
 pub free_found : (bs : List ℕ) (l : Line) → Found bs l → u64_at bs l.free_at ≡ (imaged bs).free l.account l.security
-free_found bs l f = ap (u64_at bs) f.free_at_lem ∙ sym (imaged_free bs l.account l.security (f.account, f.security))
+free_found bs l f = ap (u64_at bs) f.free_at ∙ sym (imaged_free bs l.account l.security (f.account, f.security))
 
 pub reserved_found : (bs : List ℕ) (l : Line) → Found bs l → u64_at bs l.reserved_at ≡ (imaged bs).reserved l.account l.security
-reserved_found bs l f = ap (u64_at bs) f.reserved_at_lem ∙ sym (imaged_reserved bs l.account l.security (f.account, f.security))
+reserved_found bs l f = ap (u64_at bs) f.reserved_at ∙ sym (imaged_reserved bs l.account l.security (f.account, f.security))
 
 module _ (bs cs : List ℕ) (l : Line) (v : ℕ) (f : Found bs l) where
   pub set_free_after : Stored bs cs l.free_at v → imaged cs ≡ with_free (imaged bs) l.account l.security v
-  set_free_after st = stored_free bs cs l.account l.security v (f.account, f.security) (rw f.free_at_lem at st)
+  set_free_after st = stored_free bs cs l.account l.security v (f.account, f.security) (rw f.free_at at st)
 
   pub set_free_beyond : Stored bs cs l.free_at v → beyond cs ≡ beyond bs
   unfolding imaged
   set_free_beyond st =
       let r = room bs l.account l.security f.account f.security in
-      beyond_same bs cs l.free_at v st (omega (arith, f.free_at_lem)) (enough bs l.account f.account) (omega (arith, f.free_at_lem))
+      beyond_same bs cs l.free_at v st (omega (arith, f.free_at)) (enough bs l.account f.account) (omega (arith, f.free_at))
 
   pub set_free_stays : Stored bs cs l.free_at v → Found cs l
-  set_free_stays st = found_same bs cs l.free_at v st (omega (arith, f.free_at_lem)) l f
+  set_free_stays st = found_same bs cs l.free_at v st (omega (arith, f.free_at)) l f
 
   pub set_reserved_after : Stored bs cs l.reserved_at v → imaged cs ≡ with_reserved (imaged bs) l.account l.security v
-  set_reserved_after st = stored_reserved bs cs l.account l.security v (f.account, f.security) (rw f.reserved_at_lem at st)
+  set_reserved_after st = stored_reserved bs cs l.account l.security v (f.account, f.security) (rw f.reserved_at at st)
 
   pub set_reserved_beyond : Stored bs cs l.reserved_at v → beyond cs ≡ beyond bs
   unfolding imaged
   set_reserved_beyond st =
       let r = room bs l.account l.security f.account f.security in
-      beyond_same bs cs l.reserved_at v st (omega (arith, f.reserved_at_lem)) (enough bs l.account f.account) (omega (arith, f.reserved_at_lem))
+      beyond_same bs cs l.reserved_at v st (omega (arith, f.reserved_at)) (enough bs l.account f.account) (omega (arith, f.reserved_at))
 
   pub set_reserved_stays : Stored bs cs l.reserved_at v → Found cs l
-  set_reserved_stays st = found_same bs cs l.reserved_at v st (omega (arith, f.reserved_at_lem)) l f
+  set_reserved_stays st = found_same bs cs l.reserved_at v st (omega (arith, f.reserved_at)) l f

@@ -14,8 +14,8 @@ pub record Stored (before after : List ℕ) (at v : ℕ) : Type 0 where
 pub record Found (bs : List ℕ) (l : Line) : Type 0 where
   pub account : l.account < (imaged bs).accounts
   pub security : l.security < (imaged bs).securities
-  pub free_at_lem : l.free_at ≡ free_place bs l.account l.security
-  pub reserved_at_lem : l.reserved_at ≡ reserved_place bs l.account l.security
+  pub free_at : l.free_at ≡ free_place bs l.account l.security
+  pub reserved_at : l.reserved_at ≡ reserved_place bs l.account l.security
   pub free_room : l.free_at + 8 ≤ length bs
   pub reserved_room : l.reserved_at + 8 ≤ length bs
 

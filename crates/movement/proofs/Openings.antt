@@ -21,8 +21,8 @@ module _ (o : Holdings) (outside : (a s : ℕ) → (Inside o a s → ⊥) → (o
   small_outside : (a s : ℕ) → (Inside o a s → ⊥) → (o.free a s ≤ the_cap) × (o.reserved a s ≤ the_cap)
   small_outside a s out = let z = outside a s out in (omega arith, omega arith)
 
-  pub account_fits_lem : (a : ℕ) → ((s : ℕ) → s < o.securities → (o.free a s ≤ the_cap) × (o.reserved a s ≤ the_cap)) → AccountFits o a
-  account_fits_lem a below s =
+  pub account_fits : (a : ℕ) → ((s : ℕ) → s < o.securities → (o.free a s ≤ the_cap) × (o.reserved a s ≤ the_cap)) → AccountFits o a
+  account_fits a below s =
       elim (cases_lt s o.securities) [ inl lt ↦ below s lt | inr le ↦ small_outside a s (λ p. omega arith) ]
 
   pub all_fit : ((a : ℕ) → a < o.accounts → AccountFits o a) → (a : ℕ) → AccountFits o a

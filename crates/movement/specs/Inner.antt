@@ -5,8 +5,8 @@ use Rattle.movement.specs.Opening.{Acceptable}
 
 -- The counts m and n that the opening o is taken at.
 pub record Taken (o : Holdings) (m n : ℕ) : Type 0 where
-  pub few_accounts_lem : m ≤ 64
-  pub few_securities_lem : n ≤ 16
+  pub few_accounts : m ≤ 64
+  pub few_securities : n ≤ 16
   pub small : (a s : ℕ) → a < m → s < n → (o.free a s ≤ the_cap) × (o.reserved a s ≤ the_cap)
   pub accepted : Acceptable o → (m ≡ o.accounts) × (n ≡ o.securities)
   pub unfit : (Acceptable o → ⊥) → (m ≡ 0) × (n ≡ 0)

@@ -14,4 +14,4 @@ returns-in-Some-2 c =
 
 pub returns-in-None : goal.returns-in-None
 returns-in-None c =
-    IfOk-weaker c.from-str.result _ _ (λ s e. e ∙ none_text c.args.day c.args.again c.in-None.is) c.from-str.ensures.ok
+    IfOk-weaker c.from_str.result _ _ (λ s e. e ∙ none_text c.args.day c.args.again c.in-None.is) c.from_str.ensures.ok

@@ -13,8 +13,8 @@ loop-entry-init c = (c.new-text.ensures.bytes, omega arith, refl)
 pub loop-entry-preserved : goal.loop-entry-preserved
 loop-entry-preserved c =
     let at = entry_at_lem c.loop-entry.days c.in-Some.entry c.in-Some.ensures in
-    let one : c.as-str.result.now ≡ line_text c.in-Some.entry = c.as-str.ensures.value ∙ c.in-ok-one.ensures in
-    let more = pushed c.as-str.result.now refl c.in-ok-push-str.was c.push-str.ensures.bytes in (
+    let one : c.as_str.result.now ≡ line_text c.in-Some.entry = c.as_str.ensures.value ∙ c.in_ok-one.ensures in
+    let more = pushed c.as_str.result.now refl c.in_ok-push_str.was c.push_str.ensures.bytes in (
       more ∙ ap (λ l. string_bytes c.loop-entry.text ++ l) (one ∙ ap line_text at.0) ∙ ap (λ l. l ++ line_text (entry_at c.loop-entry.days)) c.loop-entry.invariant.0 ∙ sym (one_more c.loop-entry.days),
       omega arith,
       elim c.if-differs.branch [

@@ -8,5 +8,5 @@ pub returns : goal.returns
 returns c =
     let e = c.args.entry in
     IfOk-weaker c.format.result _ _
-    (λ s p. p ∙ ap (λ t. decimal e.day ++ (codes " " ++ (date_text e.date ++ (codes " " ++ (weekday_text e.weekday ++ (codes " " ++ (t ++ codes "\n"))))))) (c.as-str-again.ensures.value ∙ c.in-ok-again.ensures))
+    (λ s p. p ∙ ap (λ t. decimal e.day ++ (codes " " ++ (date_text e.date ++ (codes " " ++ (weekday_text e.weekday ++ (codes " " ++ (t ++ codes "\n"))))))) (c.as_str-again.ensures.value ∙ c.in_ok-again.ensures))
     c.format.ensures.ok

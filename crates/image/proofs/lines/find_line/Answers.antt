@@ -24,8 +24,8 @@ returns c =
       record {
         account = la;
         security = ls;
-        free_at_lem = rw counts.securities;
-        reserved_at_lem = rw (counts.accounts, counts.securities);
+        free_at = rw counts.securities;
+        reserved_at = rw (counts.accounts, counts.securities);
         free_room = rw counts.securities (omega (arith, fits));
         reserved_room = rw (counts.accounts, counts.securities) (omega (arith, fits));
       },

@@ -15,7 +15,7 @@ invariant-of-result c =
     let ms = vec_items c.in-ok-movements.movements in
     let made = c.in-ok-movements.ensures.items-if-clones-equal (λ y e. e) in
     let zeros = all_zero ms (2 * (m * n)) made in
-    ((t.few_accounts_lem, t.few_securities_lem), (ap length made ∙ length-replicate (2 * (m * n)) (pos 0), (free_start o out m n ms zeros t, (reserved_start o out m n ms zeros t, tt))))
+    ((t.few_accounts, t.few_securities), (ap length made ∙ length-replicate (2 * (m * n)) (pos 0), (free_start o out m n ms zeros t, (reserved_start o out m n ms zeros t, tt))))
 
 pub returns : goal.returns
 returns c =
