@@ -3,4 +3,4 @@ use Rattle.image.proofs.lines.accounts_in.Goals as goal
 
 pub returns : goal.returns
 unfolding imaged
-returns c = c.counts-in.ensures.accounts
+returns c = c.counts_in.ensures.accounts

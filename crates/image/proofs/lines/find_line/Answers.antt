@@ -17,7 +17,7 @@ pub returns : goal.returns
 unfolding imaged
 returns c =
     let bs = c.args.bytes.now in
-    let counts = c.counts-in-accounts.ensures in
+    let counts = c.counts_in-accounts.ensures in
     let la : c.args.account < accounts_of bs = omega arith in
     let ls : c.args.security < securities_of bs = omega arith in
     let fits = room bs c.args.account c.args.security la ls in (

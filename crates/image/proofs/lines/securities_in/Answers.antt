@@ -3,4 +3,4 @@ use Rattle.image.proofs.lines.securities_in.Goals as goal
 
 pub returns : goal.returns
 unfolding imaged
-returns c = c.counts-in.ensures.securities
+returns c = c.counts_in.ensures.securities
