@@ -6,7 +6,7 @@ use Rattle.movement.proofs.Openings.{all_fit, decides_all}
 use Rattle.movement.proofs.opening.acceptable.Goals as goal
 
 pub loop-account-preserved : goal.loop-account-preserved
-loop-account-preserved c = below_more _ _ c.loop-account.invariant (c.account_fits.ensures.0 c.if-not-account-fits.false)
+loop-account-preserved c = below_more _ _ c.loop-account.invariant (c.account_fits.ensures.0 c.if-not-account_fits.false)
 
 pub returns : goal.returns
 returns c =

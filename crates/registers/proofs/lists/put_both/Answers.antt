@@ -9,11 +9,11 @@ returns g c =
     let one = g.R.Register.holdings in
     let two = g.S.Register.holdings in
     let xs = c.args.changes.now in
-    let p = c.put-all-answers.ensures in
-    let q = c.put-all.ensures in
+    let p = c.put_all-answers.ensures in
+    let q = c.put_all.ensures in
     record {
       first = p.run;
       second = q.run;
-      alike = λ e. runs_alike (one c.args.first.now) (one c.put-all-answers.new.register) (two c.put-all.new.register) xs c.put-all-answers.result c.put-all.result p.run (subst (λ (h : Holdings). Runs h xs c.put-all.result (two c.put-all.new.register)) (sym e) q.run);
+      alike = λ e. runs_alike (one c.args.first.now) (one c.put_all-answers.new.register) (two c.put_all.new.register) xs c.put_all-answers.result c.put_all.result p.run (subst (λ (h : Holdings). Runs h xs c.put_all.result (two c.put_all.new.register)) (sym e) q.run);
       frames = (p.frame, q.frame);
     }

@@ -9,6 +9,6 @@ after-requires c =
     let a = c.args.account in
     let s = c.args.security in
     let placed = c.in-Ok.ensures in
-    let fits : SFits w64 c.movement-at.result = search rules in
-    settled_at ((image_of x.opening).free a s) c.free.result c.movement-at.result (vec_items x.movements) c.in-Ok.index (a * x.securities + s) fits c.free.ensures c.movement-at.ensures placed.index
+    let fits : SFits w64 c.movement_at.result = search rules in
+    settled_at ((image_of x.opening).free a s) c.free.result c.movement_at.result (vec_items x.movements) c.in-Ok.index (a * x.securities + s) fits c.free.ensures c.movement_at.ensures placed.index
     (x.free (a, s) (is_within x.accounts x.securities a s placed.account placed.security))

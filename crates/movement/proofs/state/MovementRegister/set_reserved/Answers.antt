@@ -10,13 +10,13 @@ towards-movement-requires c =
     let fit = (x.reserved (c.args.account, c.args.security) (is_within x.accounts x.securities c.args.account c.args.security c.requires.account c.requires.security)).0 in
     record { small = omega (arith, c.reserved.ensures, fit); bound = c.requires.bound }
 
-pub index-mut-requires : goal.index-mut-requires
-index-mut-requires c =
+pub index_mut-requires : goal.index_mut-requires
+index_mut-requires c =
     let x = c.args.self.now in
     omega (arith, x.movements.ok.0, reserved_index (image_of x.opening) x.accounts x.securities c.args.account c.args.security (vec_items x.movements) (pos 0) x.len c.requires.account c.requires.security)
 
-pub invariant-of-self : goal.invariant-of-self
-invariant-of-self c =
+pub invariant_of-self : goal.invariant_of-self
+invariant_of-self c =
     let x = c.args.self.now in
     let a = c.args.account in
     let s = c.args.security in
@@ -26,7 +26,7 @@ invariant-of-self c =
     let fit = (x.reserved (a, s) (is_within x.accounts x.securities a s c.requires.account c.requires.security)).0 in
     let made = settles (o.reserved a s) c.reserved.result c.args.number r fits c.reserved.ensures c.towards-movement.ensures fit c.requires.bound in
     let all = settled_reserved o x.accounts x.securities a s (vec_items x.movements) (to_z w64 (of_z w64 r)) x.len c.requires.account c.requires.security x.free x.reserved made.0 in
-    (x.few, (simp length-set x.len, (all.0, (all.1, tt))))
+    record { few = x.few; len = simp length-set x.len; free = all.0; reserved = all.1 }
 
 pub returns : goal.returns
 returns c =
