@@ -1,7 +1,8 @@
 -- What the places hold once those that pass a test are taken out.
 use Rattle.std.proofs.Common.{◌≡◌, ℕ, ◌+◌, ◌-◌, ◌<◌, ◌≤◌, Bool, true, false, cond, not, List, [], ◌∷◌, ◌++◌, length, get_or, take, Some, None, filter, Option, sym, refl, ap, ◌∙◌, arith}
 use borrow.Rule.Slice.PartMut.{put_mid}
-use Rattle.std.proofs.lemmas.List.Filters.{FiltersInPlace, SwapPlaces, FiltersInPlace-more_no, FiltersInPlace-more_swap}
+use Rattle.std.proofs.lemmas.List.Filters.{FiltersInPlace, FiltersInPlace-more_no, FiltersInPlace-more_swap}
+use Rattle.std.specs.List.{SwappedAt}
 use Rattle.std.proofs.lemmas.List.{length-take-le}
 use Rattle.std.proofs.lemmas.Bool.{false≢true}
 use Rattle.ordered.specs.Places.{records, packed, vacant, ascending, Ordered}
@@ -57,7 +58,7 @@ module _ {X : Type 0} (test : X → Bool) where
     pub gather_leaves : false ≡ staying test (get_or ys i o) → FiltersInPlace (staying test) xs ys k (i + 1)
     gather_leaves s = FiltersInPlace-more_no kp h (ap (staying test) e ∙ sym s) e
 
-    pub gather_moves : true ≡ staying test (get_or ys i o) → (zs : List (Option X)) → SwapPlaces ys zs k i → FiltersInPlace (staying test) xs zs (k + 1) (i + 1)
+    pub gather_moves : true ≡ staying test (get_or ys i o) → (zs : List (Option X)) → SwappedAt ys zs k i → FiltersInPlace (staying test) xs zs (k + 1) (i + 1)
     gather_moves s zs w = FiltersInPlace-more_swap kp h (ap (staying test) e ∙ sym s) e w
 
   -- xs are the places before, and ys hold in their first k places what stays

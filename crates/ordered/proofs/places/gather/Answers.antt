@@ -2,15 +2,15 @@ use Rattle.std.proofs.Common.{◌<◌, length, arith}
 use Rattle.std.proofs.lemmas.List.Filters.{FiltersInPlace-all}
 use Rattle.ordered.proofs.Gathering.{gather_leaves, gather_moves}
 use Rattle.ordered.proofs.places.gather.Goals as goal
-use Rattle.ordered.proofs.places.gather.Goals.{then-is-staying, else-is-staying}
+use Rattle.ordered.proofs.places.gather.Goals.{then-is_staying, else-is_staying}
 
 pub loop-at-preserved : goal.loop-at-preserved
 loop-at-preserved g c =
     let test = g.P.Test.passes c.args.test.now in
     let h : c.loop-at.at < length c.loop-at.places = omega arith in
-    elim c.if-is-staying.branch [
-      | then-is-staying w ↦ rw (w.places-is, w.to-is) (gather_moves test c.args.places.now c.loop-at.places c.loop-at.to c.loop-at.at c.index-places-at.result c.loop-at.invariant h c.index-places-at.is w.if-is-staying.ensures w.swap.new.self w.swap.ensures.by_index)
-      | else-is-staying w ↦ rw (w.places-is, w.to-is) (gather_leaves test c.args.places.now c.loop-at.places c.loop-at.to c.loop-at.at c.index-places-at.result c.loop-at.invariant h c.index-places-at.is w.if-is-staying.ensures)
+    elim c.if-is_staying.branch [
+      | then-is_staying w ↦ rw (w.places-is, w.to-is) (gather_moves test c.args.places.now c.loop-at.places c.loop-at.to c.loop-at.at c.index-places-at.result c.loop-at.invariant h c.index-places-at.is w.if-is_staying.ensures w.swap.new.self w.swap.ensures.by_index)
+      | else-is_staying w ↦ rw (w.places-is, w.to-is) (gather_leaves test c.args.places.now c.loop-at.places c.loop-at.to c.loop-at.at c.index-places-at.result c.loop-at.invariant h c.index-places-at.is w.if-is_staying.ensures)
     ]
 
 pub returns : goal.returns

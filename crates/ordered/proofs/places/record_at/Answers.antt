@@ -6,7 +6,7 @@ use Rattle.ordered.proofs.places.record_at.Goals as goal
 pub returns-then-place-places : goal.returns-then-place-places
 returns-then-place-places g c =
     let ps = c.args.places.now in
-    c.as-ref.ensures.value
+    c.as_ref.ensures.value
     ∙ read_at ps c.args.place c.index-places-place.result c.requires.0 (slice_get_read ps _ c.args.place c.index-places-place.result refl c.if-place-places.true c.index-places-place.is)
 
 pub returns-else-place-places : goal.returns-else-place-places

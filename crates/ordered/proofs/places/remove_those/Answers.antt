@@ -2,8 +2,8 @@ use Rattle.std.proofs.Common.{arith}
 use Rattle.ordered.proofs.Gathering.{taken_count, left_records, left_ordered}
 use Rattle.ordered.proofs.places.remove_those.Goals as goal
 
-pub overflow-sub-result : goal.overflow-sub-result
-overflow-sub-result g c =
+pub overflow_sub-result : goal.overflow_sub-result
+overflow_sub-result g c =
     let e = taken_count (g.P.Test.passes c.args.test.now) c.args.places.now c.gather-after.new.places c.gather-after.result c.requires.0 c.gather-after.ensures.front c.gather-after.ensures.within in
     omega (arith, c.count-before.ensures)
 
