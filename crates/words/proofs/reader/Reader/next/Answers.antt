@@ -10,10 +10,10 @@ returns c =
     let line = c.args.self.now.line.now in
     let at = c.args.self.now.at in
     let p = c.args.self.now.place in
-    let n = c.length-until-n.result in
+    let n = c.length_until-n.result in
     let same = take_rest line at in
     let within : at ≤ length line = omega arith in
-    let found = c.length-until-n.ensures.value ∙ ap (until 32) same in
+    let found = c.length_until-n.ensures.value ∙ ap (until 32) same in
     let cut : take (n - 0) (take (length line - at) (drop at line)) ≡ take n (drop at line) = (λ i. take (sub-zero n i) (same i)) in
     record {
       given = next_given line at n p _ within found cut;
