@@ -5,20 +5,20 @@ use Rattle.matching.proofs.search.first_pair.Goals as goal
 pub loop-lending-preserved : goal.loop-lending-preserved
 loop-lending-preserved c =
     next_partner c.args.ledger.now c.requires c.loop-borrowing.borrowing c.in-Some.request c.in-Some.is c.loop-lending.lending false
-    c.loop-lending.invariant c.if-is-partner.ensures refl
+    c.loop-lending.invariant c.if-is_partner.ensures refl
 
 pub loop-borrowing-preserved : goal.loop-borrowing-preserved
 loop-borrowing-preserved c =
     next_borrowing c.args.ledger.now c.requires c.loop-borrowing.borrowing c.in-Some.request c.in-Some.is c.loop-borrowing.invariant c.loop-lending.lending
     (omega (arith, c.requires.lending.long)) c.loop-lending.invariant
 
-pub returns-in-default : goal.returns-in-default
-returns-in-default c = none_at_end c.args.ledger.now c.requires c.loop-borrowing.borrowing c.loop-borrowing.invariant c.in-default.is
+pub returns-in_default : goal.returns-in_default
+returns-in_default c = none_at_end c.args.ledger.now c.requires c.loop-borrowing.borrowing c.loop-borrowing.invariant c.in_default.is
 
-pub returns-then-is-partner : goal.returns-then-is-partner
-returns-then-is-partner c =
+pub returns-then-is_partner : goal.returns-then-is_partner
+returns-then-is_partner c =
     found c.args.ledger.now c.requires c.loop-borrowing.borrowing c.in-Some.request c.in-Some.is c.loop-borrowing.invariant c.loop-lending.lending true
-    c.loop-lending.invariant c.if-is-partner.ensures refl
+    c.loop-lending.invariant c.if-is_partner.ensures refl
 
 pub returns-after-loop-borrowing : goal.returns-after-loop-borrowing
 returns-after-loop-borrowing c =
