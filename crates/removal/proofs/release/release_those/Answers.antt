@@ -5,8 +5,8 @@ use Rattle.removal.proofs.release.release_those.Goals as goal
 pub loop-place-init : goal.loop-place-init
 loop-place-init g c = (record { onward = refl; lent = c.requires }, refl)
 
-pub release-one-requires : goal.release-one-requires
-release-one-requires g c =
+pub release_one-requires : goal.release_one-requires
+release_one-requires g c =
     next_releasable c.args.leaving (g.R.Register.holdings c.args.register.now) (g.R.Register.holdings c.loop-place.register)
     c.args.places.now c.loop-place.place-index c.loop-place.invariant.0 c.in-Some.lending c.loop-place-test.true c.in-Some.is
 
@@ -14,15 +14,15 @@ pub loop-place-preserved : goal.loop-place-preserved
 loop-place-preserved g c = (
   releasing_more c.args.leaving (g.R.Register.holdings c.args.register.now) (g.R.Register.holdings c.loop-place.register)
       c.args.places.now c.loop-place.place-index c.loop-place.invariant.0 c.in-Some.lending
-      (g.R.Register.holdings c.release-one.new.register) c.loop-place-test.true c.in-Some.is c.release-one.ensures.holds,
-  c.release-one.ensures.frame ∙ c.loop-place.invariant.1,
+      (g.R.Register.holdings c.release_one.new.register) c.loop-place-test.true c.in-Some.is c.release_one.ensures.holds,
+  c.release_one.ensures.frame ∙ c.loop-place.invariant.1,
 )
 
-pub returns-in-default : goal.returns-in-default
-returns-in-default g c = record {
+pub returns-in_default : goal.returns-in_default
+returns-in_default g c = record {
   holds =
       releasing_stop c.args.leaving (g.R.Register.holdings c.args.register.now) (g.R.Register.holdings c.loop-place.register)
-      c.args.places.now c.loop-place.place-index c.loop-place.invariant.0 c.loop-place-test.true c.in-default.is;
+      c.args.places.now c.loop-place.place-index c.loop-place.invariant.0 c.loop-place-test.true c.in_default.is;
   frame = c.loop-place.invariant.1;
 }
 
