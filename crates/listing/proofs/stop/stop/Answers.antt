@@ -9,8 +9,8 @@ use Rattle.definitions.specs.States.{state}
 use Rattle.definitions.proofs.Ranges.{sound_eligible, sound_stopped}
 use Rattle.listing.proofs.stop.stop.Goals as goal
 
-pub remove-requests-requires : goal.remove-requests-requires
-remove-requests-requires g c =
+pub remove_requests-requires : goal.remove_requests-requires
+remove_requests-requires g c =
     let x = state (g.R.Register.holdings c.args.register.now) c.args.ledger.now in
     let neat = c.requires.neat in
     let opened = c.if-not-ledger.false in
@@ -23,7 +23,7 @@ pub returns : goal.returns
 returns g c =
     let x = state (g.R.Register.holdings c.args.register.now) c.args.ledger.now in
     let known : c.args.security < most_securities = omega (arith, (c.requires.sound.borne c.if-not-ledger.false).securities) in
-    let removed = c.remove-requests.ensures in
+    let removed = c.remove_requests.ensures in
     record {
       step = search rules;
       upheld = record {
