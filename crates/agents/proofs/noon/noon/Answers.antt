@@ -9,8 +9,8 @@ loop-agent-init c = passing_none c.args.ledger.now c.requires
 pub loop-agent-preserved : goal.loop-agent-preserved
 loop-agent-preserved c =
     passing_more c.args.ledger.now c.loop-agent.ledger c.loop-agent.agent c.loop-agent.suspended c.loop-agent.invariant
-    c.is-short-short.result c.pass-noon-suspended.new.agent c.pass-noon-suspended.result c.loop-agent-test.true
-    c.is-short-short.ensures c.pass-noon-suspended.ensures.after c.pass-noon-suspended.ensures.suspends
+    c.is_short-short.result c.pass_noon-suspended.new.agent c.pass_noon-suspended.result c.loop-agent-test.true
+    c.is_short-short.ensures c.pass_noon-suspended.ensures.after c.pass_noon-suspended.ensures.suspends
 
 pub returns : goal.returns
 returns c =

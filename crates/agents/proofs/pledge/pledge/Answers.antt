@@ -11,9 +11,9 @@ placed : (c : After-number-place) → Placed c.args.ledger.now c.args.agent c.ar
 placed c =
     record { kempt = c.requires; opened = c.if-not-ledger.false; inside = c.if-agent.false; some = c.in-Some.ensures; is = c.number-place.ensures; low = c.if-cents-lt1.false; high = c.if-cents-gt-CAP.false }
 
-pub overflow-sub-room : goal.overflow-sub-room
-overflow-sub-room c =
-    omega (arith, cents_most c.args.ledger.now c.args.agent c.args.kind c.args.cents c.number-place.result c.in-Some.kind (placed (goal.at.overflow-sub-room c).After-number-place))
+pub overflow_sub-room : goal.overflow_sub-room
+overflow_sub-room c =
+    omega (arith, cents_most c.args.ledger.now c.args.agent c.args.kind c.args.cents c.number-place.result c.in-Some.kind (placed (goal.at.overflow_sub-room c).After-number-place))
 
 pub returns-then-cents-room : goal.returns-then-cents-room
 returns-then-cents-room c =

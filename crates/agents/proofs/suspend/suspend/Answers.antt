@@ -18,9 +18,9 @@ pub returns : goal.returns
 returns c =
     let l = c.args.ledger.now in
     let g = c.args.agent in
-    let a = c.change-standing.new.agent in
-    let is = c.change-standing.ensures in
+    let a = c.change_standing.new.agent in
+    let is = c.change_standing.ensures in
     record {
-      step = step_suspended l c.requires g c.if-not-ledger.false c.if-agent.false a is c.in-default.not-Suspended;
+      step = step_suspended l c.requires g c.if-not-ledger.false c.if-agent.false a is c.in_default.not-Suspended;
       kempt = kempt_suspended l c.requires g c.if-not-ledger.false c.if-agent.false a is;
     }
