@@ -36,7 +36,7 @@ loop-call-preserved g c =
     let split : drop i calls ≡ call ∷ drop (i + 1) calls = drop-cons calls i (Admit 0) (omega arith) ∙ ap (λ (n : ℕ). call ∷ drop n calls) (sym (add-one i)) in
     let next = going_next x calls (drop (i + 1) calls) y z es call c.execute-answer.result
     (subst (λ (l : List Call). Going x calls l y es) split inv.0) c.execute-answer.ensures.says c.execute-answer.ensures.leaves in (
-      subst (λ (l : List Entry). Going x calls (drop (i + 1) calls) z l) (sym c.push-reserved.ensures.items) next,
+      subst (λ (l : List Entry). Going x calls (drop (i + 1) calls) z l) (sym c.push_reserved.ensures.items) next,
       omega arith,
       omega arith,
       c.execute-answer.ensures.stands,

@@ -13,10 +13,10 @@ use Rattle.desk.proofs.day.answer_run.Goals as goal
 
 pub returns-in-Ok : goal.returns-in-Ok
 returns-in-Ok c =
-    let zero = ap imaged (c.new-register.ensures.same ∙ c.as-mut-slice.ensures.value) ∙ c.in-ok-bytes.ensures in
+    let zero = ap imaged (c.new-register.ensures.same ∙ c.as_mut_slice.ensures.value) ∙ c.in_ok-bytes.ensures in
     let answered =
-    ap (map (λ (e : Entry). e.answer)) c.as-slice.ensures.value ∙ c.in-Ok.ensures.answered
+    ap (map (λ (e : Entry). e.answer)) c.as_slice.ensures.value ∙ c.in-Ok.ensures.answered
     ∙ ap (λ (h : Holdings). answers (opening h c.args.day) c.args.calls.now) zero in
-    IfOk-weaker c.reply-all.result _ _
+    IfOk-weaker c.reply_all.result _ _
     (λ s e. e ∙ ap (λ (vs : List (Result Answer Refusal)). told 1 None vs (lines c.args.text.now)) answered)
-    c.reply-all.ensures
+    c.reply_all.ensures

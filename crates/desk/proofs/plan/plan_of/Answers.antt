@@ -9,7 +9,7 @@ use Rattle.desk.proofs.plan.plan_of.Goals as goal
 pub loop-line-preserved : goal.loop-line-preserved
 loop-line-preserved c =
     let day = c.loop-line.day in
-    let next = c.open-on-day.result in
+    let next = c.open_on-day.result in
     let asked = c.instruction-asked.result in
     let ls = lines c.loop-line.line-iterator.rest.now in
     let rest = lines c.next.new.self.rest.now in
@@ -17,9 +17,9 @@ loop-line-preserved c =
     let split = c.in-Some.ensures.steps in (
       tt,
       tt,
-      day_next day next asked ls rest line split c.instruction-asked.ensures c.open-on-day.ensures _ c.loop-line.invariant.2,
-      calls_next day next asked ls rest line split c.instruction-asked.ensures c.open-on-day.ensures _
-          (vec_items c.loop-line.calls) (vec_items c.keep.new.calls) (c.in-ok-keep.ensures ∙ ap (λ (o : Option Call). vec_items c.loop-line.calls ++ option_to_list o) c.put-by.ensures) c.loop-line.invariant.3,
+      day_next day next asked ls rest line split c.instruction-asked.ensures c.open_on-day.ensures _ c.loop-line.invariant.2,
+      calls_next day next asked ls rest line split c.instruction-asked.ensures c.open_on-day.ensures _
+          (vec_items c.loop-line.calls) (vec_items c.keep.new.calls) (c.in_ok-keep.ensures ∙ ap (λ (o : Option Call). vec_items c.loop-line.calls ++ option_to_list o) c.put_by.ensures) c.loop-line.invariant.3,
     )
 
 pub returns : goal.returns

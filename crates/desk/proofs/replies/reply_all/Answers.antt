@@ -15,13 +15,13 @@ loop-line-preserved c =
     let asked = c.instruction-asked.result in
     let out = string_bytes c.loop-line.out in
     let vs = map (λ (e : Entry). e.answer) c.loop-line.left.now in
-    let told-reply = c.as-str.ensures.value ∙ c.in-ok-reply.ensures ∙ ap (reply_text n) c.reply-by.ensures in
-    let more = pushed c.as-str.result.now refl c.in-ok-push-str.was c.push-str.ensures.bytes ∙ ap (λ (t : List ℕ). out ++ t) told-reply in (
+    let told-reply = c.as_str.ensures.value ∙ c.in_ok-reply.ensures ∙ ap (reply_text n) c.reply_by.ensures in
+    let more = pushed c.as_str.result.now refl c.in_ok-push_str.was c.push_str.ensures.bytes ∙ ap (λ (t : List ℕ). out ++ t) told-reply in (
       tt,
       tt,
-      told_next day c.open-on-day.result asked (lines c.loop-line.line-iterator.rest.now) (lines c.next.new.self.rest.now) c.in-Some.line.now
-          c.in-Some.ensures.steps c.instruction-asked.ensures c.open-on-day.ensures
-          n _ out (string_bytes c.push-str.new.self) vs (map (λ (e : Entry). e.answer) c.left-by-left.result.now) more (c.left-by-left.ensures ∙ ap (λ (o : Option Call). left_by o vs) c.put-by.ensures) c.loop-line.invariant.2,
+      told_next day c.open_on-day.result asked (lines c.loop-line.line-iterator.rest.now) (lines c.next.new.self.rest.now) c.in-Some.line.now
+          c.in-Some.ensures.steps c.instruction-asked.ensures c.open_on-day.ensures
+          n _ out (string_bytes c.push_str.new.self) vs (map (λ (e : Entry). e.answer) c.left_by-left.result.now) more (c.left_by-left.ensures ∙ ap (λ (o : Option Call). left_by o vs) c.put_by.ensures) c.loop-line.invariant.2,
       omega (arith, (c.in-Some.ensures.goes.on tt).2, c.loop-line.invariant.3),
     )
 

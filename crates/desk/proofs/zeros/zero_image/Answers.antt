@@ -5,4 +5,4 @@ use Rattle.desk.proofs.zeros.zero_image.Goals as goal
 
 pub returns : goal.returns
 returns c =
-    ap (λ (bs : List ℕ). imaged (set (set bs 1 64) 3 16)) (c.in-ok-bytes.ensures.items-if-clones-equal (λ y e. e)) ∙ shows_zeros 16388 (omega arith)
+    ap (λ (bs : List ℕ). imaged (set (set bs 1 64) 3 16)) (c.in_ok-bytes.ensures.items_if_clones_equal (λ y e. e)) ∙ shows_zeros 16388 (omega arith)

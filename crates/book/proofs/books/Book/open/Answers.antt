@@ -6,7 +6,7 @@ use Rattle.book.proofs.books.Book.open.Goals as goal
 pub returns : goal.returns
 returns g c =
     let h = g.R.Register.holdings c.args.register in
-    let opened = ap (opened_by h c.args.day) c.may-open-opened.ensures in
+    let opened = ap (opened_by h c.args.day) c.may_open-opened.ensures in
     record {
       state = opened;
       stands = record {
