@@ -5,7 +5,7 @@ use Rattle.std.proofs.lemmas.Bool.{cond-true}
 use Rattle.terms.specs.declared.ledger.Ledger.{Ledger}
 use Rattle.terms.specs.declared.records.Agent.{Agent}
 use Rattle.terms.specs.declared.records.Event.TheVariants.{Noon}
-use Rattle.definitions.specs.Cover.{agent_after, needed, points, short}
+use Rattle.definitions.specs.Cover.{agent_after, needed_in, points, short_in}
 use Rattle.definitions.specs.Limits.{agent_count}
 use Rattle.definitions.specs.Questions.{Step}
 use Rattle.definitions.specs.Sound.{AgentRanged, Kempt}
@@ -37,13 +37,13 @@ module _ (l₀ l : Ledger) (i n : ℕ) (p : Passing l₀ l i n) where
   here = p.ahead i (omega arith)
 
   -- who is short is so by what no standing counts for
-  same_short : short (kept_of l) i ≡ short (kept_of l₀) i
+  same_short : short_in (kept_of l) i ≡ short_in (kept_of l₀) i
   same_short =
-      ap (λ (m : Ledger). short (kept_of m) i) p.rest ∙ ap (λ (a : Agent). ltb (points a.cents) (needed (kept_of l₀) i)) here
+      ap (λ (m : Ledger). short_in (kept_of m) i) p.rest ∙ ap (λ (a : Agent). ltb (points a.cents) (needed_in (kept_of l₀) i)) here
 
   -- noon comes to the agent i, whose record is a after it
-  module _ (b : Bool) (a : Agent) (m : ℕ) (inside : i < agent_count) (told : b ≡ short (kept_of l) i) (is : a ≡ agent_after (get_or l.agents i no_agent) (Noon b)) (one : m ≡ cond (is_notified (get_or l.agents i no_agent).standing && b) 1 0) where
-    is_short_lem : b ≡ short (kept_of l₀) i
+  module _ (b : Bool) (a : Agent) (m : ℕ) (inside : i < agent_count) (told : b ≡ short_in (kept_of l) i) (is : a ≡ agent_after (get_or l.agents i no_agent) (Noon b)) (one : m ≡ cond (is_notified (get_or l.agents i no_agent).standing && b) 1 0) where
+    is_short_lem : b ≡ short_in (kept_of l₀) i
     is_short_lem = told ∙ same_short
 
     after : a ≡ at_noon (kept_of l₀) i (get_or l₀.agents i no_agent)

@@ -12,7 +12,7 @@ use Rattle.terms.specs.declared.records.Kind.{Kind}
 use Rattle.definitions.specs.Cover.{covers, weight}
 use Rattle.definitions.specs.Limits.{agent_count, kind_count, within}
 use Rattle.definitions.specs.Pledges.{cents_of, pledge_asks, pledge_does, unpledge_asks, unpledge_does, with_cents, weight_at}
-use Rattle.definitions.specs.Questions.{Question, Step, first_no, has_agent, is_opened}
+use Rattle.definitions.specs.Questions.{Question, Step, first_no, has_agent, opened_in}
 use Rattle.definitions.specs.Sound.{Kempt}
 use Rattle.definitions.specs.States.{Kept, kept_of, no_agent}
 use Rattle.definitions.proofs.Ranges.{agent_ranged}
@@ -62,7 +62,7 @@ module _ (l : Ledger) (g kind c n : ℕ) (x : Kind) (p : Placed l g kind c n x) 
       let r = agent_ranged k p.kempt.ranged g p.inside in
       kempt_agent l p.kempt g (with m) (record { kinds = length-set own.cents n m ∙ r.kinds; capped = All-set (λ i. i ≤ the_cap) own.cents n m le r.capped })
 
-  asked : (q : Question) → first_no (is_opened k ∷ (Unknown, has_agent g && ltb kind kind_count) ∷ (OutOfRange, within 1 the_cap c) ∷ q ∷ []) ≡ first_no (q ∷ [])
+  asked : (q : Question) → first_no (opened_in k ∷ (Unknown, has_agent g && ltb kind kind_count) ∷ (OutOfRange, within 1 the_cap c) ∷ q ∷ []) ≡ first_no (q ∷ [])
   asked q =
       cond-true _ _ _ p.opened
       ∙ cond-true _ _ _ (and_from _ _ (lt-ltb g agent_count p.inside) (lt-ltb kind kind_count (omega (arith, place, p.is, kind_few x))))

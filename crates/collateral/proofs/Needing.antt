@@ -4,18 +4,18 @@ use Rattle.std.proofs.ByRecursion.{All-get_or}
 use Rattle.std.proofs.lemmas.Bool.{cond-true, lt-ltb, eq-eqb}
 use Rattle.tariff.specs.Words.{in_word}
 use Rattle.terms.specs.declared.records.Exposure.{Exposure}
-use Rattle.definitions.specs.Cover.{need, need_for, price}
+use Rattle.definitions.specs.Cover.{need, need_for, price_in}
 use Rattle.definitions.specs.Limits.{most_price, most_quantity}
 use Rattle.definitions.specs.Sound.{ExposureRanged, PriceRanged, Ranged}
 use Rattle.definitions.specs.States.{Kept, no_security}
 
 module _ (k : Kept) (ranged : Ranged k) (g : ℕ) (e : Exposure) (fits : ExposureRanged e) where
   abbrev needs : ℕ
-  needs = need e.quantity (price k e.security)
+  needs = need e.quantity (price_in k e.security)
 
   need_most : needs ≤ need most_quantity most_price
   need_most =
-      let p : price k e.security ≤ most_price = (All-get_or PriceRanged k.securities e.security no_security (omega (arith, ranged.securities, fits.security)) ranged.prices).price in
+      let p : price_in k e.security ≤ most_price = (All-get_or PriceRanged k.securities e.security no_security (omega (arith, ranged.securities, fits.security)) ranged.prices).price in
       omega (arith, mul-le-mul fits.quantity p)
 
   in-word : in_word needs ≡ Some needs

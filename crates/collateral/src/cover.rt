@@ -1,8 +1,8 @@
 //! Whether an agent's collateral covers what it must.
 ghost use Rattle.std.specs.Prelude.{◌≡◌};
-ghost use Rattle.definitions.specs.Cover.{covers as is_covered, points as points_of, short as is_short};
+ghost use Rattle.definitions.specs.Cover.{covers as is_covered, points as points_of, short_in as is_short};
 ghost use Rattle.definitions.specs.Sound.{Kempt};
-ghost use Rattle.definitions.specs.States.{agent as agent_of, kept_of};
+ghost use Rattle.definitions.specs.States.{agent_in as agent_of, kept_of};
 
 use crate::needs::needed;
 use tariff::cover::points;

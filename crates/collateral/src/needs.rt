@@ -1,6 +1,6 @@
 //! What an agent needs in collateral, in points.
 ghost use Rattle.std.specs.Prelude.{◌≡◌, ◌*◌, ◌≤◌, length};
-ghost use Rattle.definitions.specs.Cover.{need as need_of, needed as needed_of, need_for};
+ghost use Rattle.definitions.specs.Cover.{need as need_of, needed_in as needed_of, need_for};
 ghost use Rattle.definitions.specs.Limits.{most_price, most_quantity};
 ghost use Rattle.definitions.specs.Sound.{ExposureRanged, Kempt};
 ghost use Rattle.definitions.specs.States.{kept_of, total};

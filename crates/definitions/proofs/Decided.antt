@@ -11,11 +11,11 @@ use Rattle.terms.specs.declared.records.Agent.{Agent}
 use Rattle.terms.specs.declared.records.Event.TheVariants.{Noon}
 use Rattle.terms.specs.declared.records.Standing.{Standing}
 use Rattle.terms.specs.declared.records.Standing.TheVariants.{Clear, Notified, Suspended}
-use Rattle.definitions.specs.Cover.{agent_after, short, standing_after}
+use Rattle.definitions.specs.Cover.{agent_after, short_in, standing_after}
 use Rattle.definitions.specs.Limits.{agent_count}
 use Rattle.definitions.specs.Listing.{in_security, made_eligible}
 use Rattle.definitions.specs.Standings.{at_noon, noon_does, suspended_at_noon}
-use Rattle.definitions.specs.States.{Kept, agent, is_notified, is_suspended, no_agent, suspended}
+use Rattle.definitions.specs.States.{Kept, agent_in, is_notified, is_suspended, no_agent, suspended}
 use Rattle.definitions.specs.Theorems.{CallsDecide, NoonDecides}
 use Rattle.definitions.proofs.Released.{backs_those, released_line}
 use Rattle.definitions.proofs.Tables.{at_each}
@@ -43,21 +43,21 @@ stays a b e = by_standing a.standing e
 
 module _ (k : Kept) where
   -- past the last agent nobody stands
-  past : (g : ℕ) → length k.agents ≤ g → agent k g ≡ no_agent
+  past : (g : ℕ) → length k.agents ≤ g → agent_in k g ≡ no_agent
   past g l = get_or_past k.agents g no_agent l
 
   more_at : (g : ℕ) → cond (suspended (noon_does k) g) 1 0 ≡ cond (suspended k g) 1 0 + cond (suspended_at_noon k g) 1 0
   more_at = at_each (λ g a. cond (is_suspended a.standing) 1 0 ≡ cond (suspended k g) 1 0 + cond (suspended_at_noon k g) 1 0) (at_noon k) k.agents no_agent
-      (λ g. one_more (agent k g).standing (short k g))
-      (λ g l. ap (λ (a : Agent). cond (is_suspended a.standing) 1 0) (past g l) ∙ sym (ap (λ (a : Agent). cond (is_suspended a.standing) 1 0 + cond (is_notified a.standing && short k g) 1 0) (past g l)))
+      (λ g. one_more (agent_in k g).standing (short_in k g))
+      (λ g l. ap (λ (a : Agent). cond (is_suspended a.standing) 1 0) (past g l) ∙ sym (ap (λ (a : Agent). cond (is_suspended a.standing) 1 0 + cond (is_notified a.standing && short_in k g) 1 0) (past g l)))
 
   noon_decides : NoonDecides k
   noon_decides = record {
     counted =
         sum_same agent_count (λ g. cond (suspended k g) 1 0 + cond (suspended_at_noon k g) 1 0) (λ g. cond (suspended (noon_does k) g) 1 0) (λ g l. more_at g)
         ∙ sum_both agent_count (λ g. cond (suspended k g) 1 0) (λ g. cond (suspended_at_noon k g) 1 0);
-    decided = at_each (λ g a. is_notified a.standing ≡ false) (at_noon k) k.agents no_agent (λ g. none_notified (agent k g).standing (short k g)) (λ g l. ap (λ (a : Agent). is_notified a.standing) (past g l));
-    others = at_each (λ g a. is_notified (agent k g).standing ≡ false → a ≡ agent k g) (at_noon k) k.agents no_agent (λ g. stays (agent k g) (short k g)) (λ g l e. refl);
+    decided = at_each (λ g a. is_notified a.standing ≡ false) (at_noon k) k.agents no_agent (λ g. none_notified (agent_in k g).standing (short_in k g)) (λ g l. ap (λ (a : Agent). is_notified a.standing) (past g l));
+    others = at_each (λ g a. is_notified (agent_in k g).standing ≡ false → a ≡ agent_in k g) (at_noon k) k.agents no_agent (λ g. stays (agent_in k g) (short_in k g)) (λ g l e. refl);
   }
 
 -- None of the others passes.

@@ -2,9 +2,9 @@
 use Rattle.std.proofs.Common.{◌≡◌, ℕ, ◌<◌, sym, subst, ⊎_elim}
 use Rattle.std.proofs.lemmas.Bool.{cases_order}
 use Rattle.definitions.specs.Matching.{FirstPair, OneFirstPair, Pair}
-use Rattle.definitions.specs.States.{Kept}
+use Rattle.definitions.specs.States.{State}
 
-module _ (k : Kept) (i j m n : ℕ) (p : FirstPair k i j) (q : FirstPair k m n) where
+module _ (x : State) (i j m n : ℕ) (p : FirstPair x i j) (q : FirstPair x m n) where
   same_borrowing : j ≡ n
   same_borrowing =
       ⊎_elim (λ (e : j ≡ n). e)
@@ -15,9 +15,9 @@ module _ (k : Kept) (i j m n : ℕ) (p : FirstPair k i j) (q : FirstPair k m n) 
   same_lending =
       ⊎_elim (λ (e : i ≡ m). e)
       (⊎_elim
-      (λ (l : i < m). absurd (q.first_partner i l (subst (Pair k i) same_borrowing p.pair)))
-      (λ (l : m < i). absurd (p.first_partner m l (subst (Pair k m) (sym same_borrowing) q.pair))))
+      (λ (l : i < m). absurd (q.first_partner i l (subst (Pair x i) same_borrowing p.pair)))
+      (λ (l : m < i). absurd (p.first_partner m l (subst (Pair x m) (sym same_borrowing) q.pair))))
       (cases_order i m)
 
-pub one_first_pair : (k : Kept) → OneFirstPair k
-one_first_pair k = record { one = λ i j m n p q. (same_lending k i j m n p q, same_borrowing k i j m n p q); none = λ h i j p. h i j p.pair }
+pub one_first_pair : (x : State) → OneFirstPair x
+one_first_pair x = record { one = λ i j m n p q. (same_lending x i j m n p q, same_borrowing x i j m n p q); none = λ h i j p. h i j p.pair }

@@ -121,7 +121,7 @@ record Good (closed : ℕ → ℕ) (made : ℕ) (x : State) : Type 0 where
   backed : Backed x
   named : (n : ℕ) → stands n x + closed n ≡ given_out n x
   loans : x.kept.references ≡ made
-  none : NoPair x.kept
+  none : NoPair x
   covered : Covered x.kept
   long : length x.kept.agents ≡ agent_count
 

@@ -11,14 +11,14 @@ use Rattle.terms.specs.declared.records.Event.{Event}
 use Rattle.terms.specs.declared.records.Event.TheVariants.{Noon}
 use Rattle.terms.specs.declared.records.Request.{Request}
 use Rattle.terms.specs.declared.records.Security.{Security}
-use Rattle.definitions.specs.Cover.{agent_after, short}
+use Rattle.definitions.specs.Cover.{agent_after, short_in}
 use Rattle.definitions.specs.Limits.{agent_count, most_price, most_securities}
 use Rattle.definitions.specs.Listing.{with_security, made_eligible, stop_does, price_does, in_security}
 use Rattle.definitions.specs.Pledges.{with_agent, with_cents, cents_of}
 use Rattle.definitions.specs.Requests.{taken_out}
 use Rattle.definitions.specs.Sound.{AgentRanged, PriceRanged, Ranged, Borne, Sound}
 use Rattle.definitions.specs.Standings.{at_noon, noon_does}
-use Rattle.definitions.specs.States.{State, Kept, agent, security, no_agent, no_security, with_agents, with_kept, map_from}
+use Rattle.definitions.specs.States.{State, Kept, agent_in, security_in, no_agent, no_security, with_agents, with_kept, map_from}
 use Rattle.definitions.proofs.Released.{backs_those, released_total, taken_reserved}
 
 -- Each number of cents is within the cap, and one that is not there is 0.
@@ -42,10 +42,10 @@ event_ranged a e r = record { kinds = r.kinds; capped = r.capped }
 
 noon_ranged : (k : Kept) (from : ℕ) (gs : List Agent) → All AgentRanged gs → All AgentRanged (map_from (at_noon k) from gs)
 noon_ranged k from [] all = tt
-noon_ranged k from (a ∷ gs) all = (event_ranged a (Noon (short k from)) all.0, noon_ranged k (suc from) gs all.1)
+noon_ranged k from (a ∷ gs) all = (event_ranged a (Noon (short_in k from)) all.0, noon_ranged k (suc from) gs all.1)
 
 module _ (k : Kept) (ranged : Ranged k) where
-  pub agent_ranged : (g : ℕ) → g < agent_count → AgentRanged (agent k g)
+  pub agent_ranged : (g : ℕ) → g < agent_count → AgentRanged (agent_in k g)
   agent_ranged g l = All-get_or AgentRanged k.agents g no_agent (omega (arith, ranged.agents)) ranged.collateral
 
   -- other agents
@@ -79,12 +79,12 @@ module _ (x : State) (sound : Sound x) where
   pub sound_cents : (g kind c : ℕ) → g < agent_count → c ≤ the_cap → Sound (with_kept x (with_cents x.kept g kind c))
   sound_cents g kind c l le =
       let k = agent_ranged x.kept sound.ranged g l in
-      sound_agent g _ (record { kinds = length-set (agent x.kept g).cents kind c ∙ k.kinds; capped = All-set (λ n. n ≤ the_cap) (agent x.kept g).cents kind c le k.capped })
+      sound_agent g _ (record { kinds = length-set (agent_in x.kept g).cents kind c ∙ k.kinds; capped = All-set (λ n. n ≤ the_cap) (agent_in x.kept g).cents kind c le k.capped })
 
   pub sound_cents_less : (g kind c : ℕ) → g < agent_count → Sound (with_kept x (with_cents x.kept g kind (cents_of x.kept g kind - c)))
   sound_cents_less g kind c l =
       let k = agent_ranged x.kept sound.ranged g l in
-      sound_cents g kind (cents_of x.kept g kind - c) l (omega (arith, cents_capped (agent x.kept g).cents kind k.capped))
+      sound_cents g kind (cents_of x.kept g kind - c) l (omega (arith, cents_capped (agent_in x.kept g).cents kind k.capped))
 
   -- one security's record
   pub sound_security : (s : ℕ) (r : Security) → PriceRanged r → Sound (with_security x s r)
@@ -102,7 +102,7 @@ module _ (x : State) (sound : Sound x) where
         borne = λ o. let b = sound.borne o in record { securities = b.securities; capped = b.capped; lines = b.lines; reserved = b.reserved };
       }
 
-  security_ranged : (s : ℕ) → s < most_securities → PriceRanged (security x.kept s)
+  security_ranged : (s : ℕ) → s < most_securities → PriceRanged (security_in x.kept s)
   security_ranged s l = All-get_or PriceRanged x.kept.securities s no_security (omega (arith, sound.ranged.securities)) sound.ranged.prices
 
   pub sound_eligible : (s : ℕ) (e : Bool) → s < most_securities → Sound (made_eligible x s e)

@@ -1,6 +1,6 @@
 -- The law of runs: whatever calls were put to a book, its shares balance, each loan is closed once, and nobody is left unmatched or uncovered.
 use Rattle.std.specs.Prelude.{◌≡◌, ℕ, ◌+◌, ◌<◌, ◌≤◌, Bool, true, false, cond, ◌&&◌, List, Ok, Err, Result, ◌==◌, nat_eq}
-use Rattle.std.specs.List.{AllByRecursion as All}
+use Rattle.std.specs.List.{AllByRecursion as Each}
 use Rattle.register.specs.Holdings.{Holdings, Inside, registered}
 use Rattle.terms.specs.declared.calls.Answer.{Answer}
 use Rattle.terms.specs.declared.calls.Answer.TheVariants.{Done, Suspensions}
@@ -14,7 +14,7 @@ use Rattle.terms.specs.declared.records.Outcome.TheVariants.{Returned, Failed}
 use Rattle.definitions.specs.Cover.{short}
 use Rattle.definitions.specs.Limits.{agent_count, within}
 use Rattle.definitions.specs.Matching.{NoPair}
-use Rattle.definitions.specs.Requests.{left_of}
+use Rattle.definitions.specs.Requests.{left_on}
 use Rattle.definitions.specs.Runs.{Entry, trace, after}
 use Rattle.definitions.specs.States.{State, opening, fit, agent, is_clear, on_line, total, count}
 
@@ -31,6 +31,10 @@ out_on_loan x a s = total (lent_from a s) x.kept.loans
 
 abbrev pub borrowed : State → ℕ → ℕ → ℕ
 borrowed x a s = total (lent_to a s) x.kept.loans
+
+-- What is left of a line's open lending requests.
+abbrev pub left_to_lend : State → ℕ → ℕ → ℕ
+left_to_lend x a s = total (left_on a s) x.kept.lending
 
 -- How an accepted call moves shares across the border of the book: not at all, onto a line, from a line, from the first account to
 -- the second; a loan closed by cash counts as a trade of its quantity from lender to borrower.
@@ -116,24 +120,24 @@ given_out n x = cond (within 1 x.kept.references n) 1 0
 pub record InTime (days : ℕ → Bool) (x : State) (l : CloseLine) : Type 0 where
   pub business : is_returned l.outcome ≡ true → days x.kept.today ≡ true
   pub stood : is_returned l.outcome ≡ true → stands l.reference x ≡ 1
-  pub due : is_returned l.outcome ≡ true → All (λ k. k.reference ≡ l.reference → k.due ≤ x.kept.today) x.kept.loans
+  pub due : is_returned l.outcome ≡ true → Each (λ k. k.reference ≡ l.reference → k.due ≤ x.kept.today) x.kept.loans
 
 -- The law of a trace es from the state x to the state y, by the business days `days`.
 pub record Law (days : ℕ → Bool) (x : State) (es : List Entry) (y : State) : Type 0 where
   -- registered, out on loan and outgoing shares of a line are its opening, incoming and borrowed ones
   pub balance : (a s : ℕ) → registered y.held a s + out_on_loan y a s + outgoing a s es ≡ registered x.held a s + incoming a s es + borrowed y a s
   -- reserved shares are what is left of open lending requests
-  pub reserved : (a s : ℕ) → y.held.reserved a s ≡ left_of y.kept.lending a s
+  pub reserved : (a s : ℕ) → y.held.reserved a s ≡ left_to_lend y a s
   -- a reference given out stands once and was never closed, or stands no more and was closed once; no other stands or was closed
   pub references : (n : ℕ) → stands n y + closings n es ≡ given_out n y
   -- the references given out are the loans that were answered
   pub loans : y.kept.references ≡ total (λ e. loans_said e.reply.says) es
   -- a loan is returned on a business day, not before its return day
-  pub in_time : All (λ e. All (InTime days e.before) e.reply.writes) es
+  pub in_time : Each (λ e. Each (InTime days e.before) e.reply.writes) es
   -- no pair of open requests is left
-  pub unmatched : NoPair y.kept
+  pub unmatched : NoPair y
   -- no clear agent is short
-  pub covered : (g : ℕ) → g < agent_count → is_clear (agent y.kept g).standing ≡ true → short y.kept g ≡ false
+  pub covered : (g : ℕ) → g < agent_count → is_clear (agent y g).standing ≡ true → short y g ≡ false
 
 -- The law holds of every book that opens on a fit register, and of any list of calls.
 unfoldable pub LawOfRuns : Type 0

@@ -30,9 +30,12 @@ pub record Step {X S : Type 0} (qs : List Question) (v : X) (new x y : S) (r : R
   pub answers : r ≡ reply_to (first_no qs) v
   pub leaves : y ≡ left_by r new x
 
--- Was the book opened?
-abbrev pub is_opened : Kept → Question
-is_opened k = (Unopened, k.opened)
+-- Was the book opened? And the same of what a ledger keeps.
+abbrev pub is_opened : State → Question
+is_opened x = (Unopened, x.kept.opened)
+
+abbrev pub opened_in : Kept → Question
+opened_in k = (Unopened, k.opened)
 
 -- The agent, the security, the account and the security exist.
 abbrev pub has_agent : ℕ → Bool

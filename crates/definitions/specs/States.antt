@@ -78,11 +78,18 @@ no_lending = record { request = no_request }
 abbrev pub no_borrowing : BorrowingRequest
 no_borrowing = record { request = no_request }
 
-abbrev pub agent : Kept → ℕ → Agent
-agent k g = slice_index_or k.agents g no_agent
+abbrev pub agent : State → ℕ → Agent
+agent x g = slice_index_or x.kept.agents g no_agent
 
-abbrev pub security : Kept → ℕ → Security
-security k s = slice_index_or k.securities s no_security
+abbrev pub security : State → ℕ → Security
+security x s = slice_index_or x.kept.securities s no_security
+
+-- The same in what a ledger keeps.
+abbrev pub agent_in : Kept → ℕ → Agent
+agent_in k g = slice_index_or k.agents g no_agent
+
+abbrev pub security_in : Kept → ℕ → Security
+security_in k s = slice_index_or k.securities s no_security
 
 abbrev pub is_suspended : Standing → Bool
 is_suspended Clear = false
@@ -100,7 +107,7 @@ is_clear Notified = false
 is_clear Suspended = false
 
 abbrev pub suspended : Kept → ℕ → Bool
-suspended k g = is_suspended (agent k g).standing
+suspended k g = is_suspended (agent_in k g).standing
 
 -- The number n, where the line (b, t) is the line (a, s).
 abbrev pub on_line : ℕ → ℕ → ℕ → ℕ → ℕ → ℕ

@@ -6,13 +6,13 @@ use Rattle.definitions.specs.Limits.{agent_count}
 use Rattle.definitions.specs.Listing.{in_security, stop_does}
 use Rattle.definitions.specs.Requests.{left_of}
 use Rattle.definitions.specs.Standings.{noon_does, suspensions}
-use Rattle.definitions.specs.States.{State, Kept, agent, count_below, is_notified, suspended}
+use Rattle.definitions.specs.States.{State, Kept, agent_in, count_below, is_notified, suspended}
 
 -- Noon answers how many more agents are suspended after it than before. Nobody is notified any more, and who was not notified is as it was.
 pub record NoonDecides (k : Kept) : Type 0 where
   pub counted : count_below agent_count (suspended (noon_does k)) ≡ count_below agent_count (suspended k) + suspensions k
-  pub decided : (g : ℕ) → is_notified (agent (noon_does k) g).standing ≡ false
-  pub others : (g : ℕ) → is_notified (agent k g).standing ≡ false → agent (noon_does k) g ≡ agent k g
+  pub decided : (g : ℕ) → is_notified (agent_in (noon_does k) g).standing ≡ false
+  pub others : (g : ℕ) → is_notified (agent_in k g).standing ≡ false → agent_in (noon_does k) g ≡ agent_in k g
 
 -- No request of a security that was stopped is left, its loans are as they were, and so are the registered shares of every line, where
 -- what is left of requests was reserved.

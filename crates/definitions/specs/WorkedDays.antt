@@ -15,9 +15,9 @@ use Rattle.terms.specs.declared.records.Sharing.TheVariants.{Many}
 use Rattle.terms.specs.declared.records.Standing.{Standing}
 use Rattle.terms.specs.declared.records.Standing.TheVariants.{Clear, Notified, Suspended}
 use Rattle.definitions.specs.Calls.{does}
-use Rattle.definitions.specs.Cover.{needed, short}
+use Rattle.definitions.specs.Cover.{needed_in, short_in}
 use Rattle.definitions.specs.Runs.{answers}
-use Rattle.definitions.specs.States.{State, agent, no_security, no_shares, on_line, opening}
+use Rattle.definitions.specs.States.{State, agent_in, no_security, no_shares, on_line, opening}
 
 -- An answer as a worked day writes it: done, how many were suspended, or the number of the refusal.
 pub data Due : Type 0 where
@@ -130,8 +130,8 @@ abbrev pub lent : Loan
 lent =
     record { reference = 1; security = 0; quantity = 400; rate = 300; opening = 1020000; accrual = 0; due = 8856; lender = record { agent = 2; account = 1 }; borrower = record { agent = 3; account = 5 }; failed = false }
 
-abbrev pub agent_in : Standing → ℕ → Agent
-agent_in standing cash = record { standing = standing; cents = cash ∷ 0 ∷ 0 ∷ 0 ∷ [] }
+abbrev pub agent_with : Standing → ℕ → Agent
+agent_with standing cash = record { standing = standing; cents = cash ∷ 0 ∷ 0 ∷ 0 ∷ [] }
 
 -- The same with this cash of agent 3.
 abbrev pub crowded : ℕ → State
@@ -141,7 +141,7 @@ crowded cash = record {
     opened = true;
     today = 8826;
     securities = record { eligible = true; posted = Some 2600; price = Some 2550 } ∷ replicate 15 no_security;
-    agents = agent_in Clear 0 ∷ agent_in Clear 0 ∷ agent_in Clear 0 ∷ agent_in Notified cash ∷ agent_in Notified 0 ∷ replicate 11 (agent_in Clear 0);
+    agents = agent_with Clear 0 ∷ agent_with Clear 0 ∷ agent_with Clear 0 ∷ agent_with Notified cash ∷ agent_with Notified 0 ∷ replicate 11 (agent_with Clear 0);
     lending = record { request = asking 1 2 1 0 650 250 } ∷ second_lending ∷ [];
     borrowing = record { request = asking 3 3 5 0 1000 600 } ∷ [];
     updates = 3;
@@ -151,15 +151,15 @@ crowded cash = record {
 }
 
 abbrev pub standing_of : State → ℕ → Standing
-standing_of x g = (agent x.kept g).standing
+standing_of x g = (agent_in x.kept g).standing
 
 -- What noon, unpledge and stop make of it. 600 left and 400 lent need 280,500,000 points, for which 2,805,000 cents of cash are
 -- just enough. Only what is left of a request is released.
 unfoldable pub WorkedStates : Type 0
 WorkedStates =
-    (needed (crowded 0).kept 3 ≡ 280500000)
-    × (short (crowded 2804999).kept 3 ≡ true)
-    × (short (crowded 2805000).kept 3 ≡ false)
+    (needed_in (crowded 0).kept 3 ≡ 280500000)
+    × (short_in (crowded 2804999).kept 3 ≡ true)
+    × (short_in (crowded 2805000).kept 3 ≡ false)
     × (map due_of (answers (crowded 2804999) (Noon ∷ Noon ∷ [])) ≡ suspended 1 ∷ suspended 0 ∷ [])
     × (standing_of (does (crowded 2804999) Noon) 3 ≡ Suspended)
     × (standing_of (does (crowded 2804999) Noon) 4 ≡ Clear)

@@ -1,7 +1,7 @@
 //! The definitions of the book stand in specs/; the functions here carry the theorems on them.
 ghost use Rattle.definitions.specs.Law.{LawOfRuns};
 ghost use Rattle.definitions.specs.Matching.{OneFirstPair};
-ghost use Rattle.definitions.specs.States.{Kept};
+ghost use Rattle.definitions.specs.States.{State};
 ghost use Rattle.definitions.specs.Theorems.{CallsDecide};
 ghost use Rattle.definitions.specs.WorkedDays.{WorkedDays, WorkedStates};
 
@@ -18,7 +18,7 @@ pub fn calls_decide_stands()
 
 /// A state has one first pair at most.
 pub fn one_first_pair_stands()
-    ensures { (k : Kept) → OneFirstPair k }
+    ensures { (x : State) → OneFirstPair x }
 {}
 
 /// The definitions compute: lists of calls have exactly the answers that are due.
