@@ -1,4 +1,4 @@
--- The changes of a ledger that keep a book sound.
+-- The changes of a ledger that keep a book upright.
 use Rattle.std.proofs.Common.{◌≡◌, ℕ, zero, suc, ◌-◌, ◌<◌, ◌≤◌, Bool, false, List, [], ◌∷◌, length, get_or, set, ◌∙◌, arith}
 use Rattle.std.specs.List.{AllByRecursion as All}
 use Rattle.std.proofs.ByRecursion.{All-get_or, All-set}
@@ -16,7 +16,7 @@ use Rattle.definitions.specs.Limits.{agent_count, most_price, most_securities}
 use Rattle.definitions.specs.Listing.{with_security, made_eligible, stop_does, price_does, in_security}
 use Rattle.definitions.specs.Pledges.{with_agent, with_cents, cents_of}
 use Rattle.definitions.specs.Requests.{taken_out}
-use Rattle.definitions.specs.Sound.{AgentRanged, PriceRanged, Ranged, Borne, Sound}
+use Rattle.definitions.specs.Sound.{AgentRanged, PriceRanged, Ranged, Borne, Upright}
 use Rattle.definitions.specs.Standings.{at_noon, noon_does}
 use Rattle.definitions.specs.States.{State, Kept, agent_in, security_in, no_agent, no_security, with_agents, with_kept, map_from}
 use Rattle.definitions.proofs.Released.{backs_those, released_total, taken_reserved}
@@ -58,38 +58,38 @@ module _ (k : Kept) (ranged : Ranged k) where
   ranged_agent g a r =
       ranged_agents (set k.agents g a) (length-set k.agents g a ∙ ranged.agents) (All-set AgentRanged k.agents g a r ranged.collateral)
 
-module _ (x : State) (sound : Sound x) where
+module _ (x : State) (upright : Upright x) where
   -- other agents: the register bears them out as well
-  sound_by : (gs : List Agent) → Ranged (with_agents x.kept gs) → Sound (with_kept x (with_agents x.kept gs))
-  sound_by gs ranged = record {
+  upright_by : (gs : List Agent) → Ranged (with_agents x.kept gs) → Upright (with_kept x (with_agents x.kept gs))
+  upright_by gs ranged = record {
     ranged = ranged;
-    borne = λ o. let b = sound.borne o in record { securities = b.securities; capped = b.capped; lines = b.lines; reserved = b.reserved };
+    borne = λ o. let b = upright.borne o in record { securities = b.securities; capped = b.capped; lines = b.lines; reserved = b.reserved };
   }
 
-  pub sound_agent : (g : ℕ) (a : Agent) → AgentRanged a → Sound (with_kept x (with_agent x.kept g a))
-  sound_agent g a r = sound_by (set x.kept.agents g a) (ranged_agent x.kept sound.ranged g a r)
+  pub upright_agent : (g : ℕ) (a : Agent) → AgentRanged a → Upright (with_kept x (with_agent x.kept g a))
+  upright_agent g a r = upright_by (set x.kept.agents g a) (ranged_agent x.kept upright.ranged g a r)
 
-  pub sound_noon : Sound (with_kept x (noon_does x.kept))
-  sound_noon =
+  pub upright_noon : Upright (with_kept x (noon_does x.kept))
+  upright_noon =
       let k = x.kept in
-      sound_by (map_from (at_noon k) 0 k.agents)
-      (ranged_agents k sound.ranged _ (length_from (at_noon k) 0 k.agents ∙ sound.ranged.agents) (noon_ranged k 0 k.agents sound.ranged.collateral))
+      upright_by (map_from (at_noon k) 0 k.agents)
+      (ranged_agents k upright.ranged _ (length_from (at_noon k) 0 k.agents ∙ upright.ranged.agents) (noon_ranged k 0 k.agents upright.ranged.collateral))
 
   -- the cents of one kind
-  pub sound_cents : (g kind c : ℕ) → g < agent_count → c ≤ the_cap → Sound (with_kept x (with_cents x.kept g kind c))
-  sound_cents g kind c l le =
-      let k = agent_ranged x.kept sound.ranged g l in
-      sound_agent g _ (record { kinds = length-set (agent_in x.kept g).cents kind c ∙ k.kinds; capped = All-set (λ n. n ≤ the_cap) (agent_in x.kept g).cents kind c le k.capped })
+  pub upright_cents : (g kind c : ℕ) → g < agent_count → c ≤ the_cap → Upright (with_kept x (with_cents x.kept g kind c))
+  upright_cents g kind c l le =
+      let k = agent_ranged x.kept upright.ranged g l in
+      upright_agent g _ (record { kinds = length-set (agent_in x.kept g).cents kind c ∙ k.kinds; capped = All-set (λ n. n ≤ the_cap) (agent_in x.kept g).cents kind c le k.capped })
 
-  pub sound_cents_less : (g kind c : ℕ) → g < agent_count → Sound (with_kept x (with_cents x.kept g kind (cents_of x.kept g kind - c)))
-  sound_cents_less g kind c l =
-      let k = agent_ranged x.kept sound.ranged g l in
-      sound_cents g kind (cents_of x.kept g kind - c) l (omega (arith, cents_capped (agent_in x.kept g).cents kind k.capped))
+  pub upright_cents_less : (g kind c : ℕ) → g < agent_count → Upright (with_kept x (with_cents x.kept g kind (cents_of x.kept g kind - c)))
+  upright_cents_less g kind c l =
+      let k = agent_ranged x.kept upright.ranged g l in
+      upright_cents g kind (cents_of x.kept g kind - c) l (omega (arith, cents_capped (agent_in x.kept g).cents kind k.capped))
 
   -- one security's record
-  pub sound_security : (s : ℕ) (r : Security) → PriceRanged r → Sound (with_security x s r)
-  sound_security s r k =
-      let n = sound.ranged in
+  pub upright_security : (s : ℕ) (r : Security) → PriceRanged r → Upright (with_security x s r)
+  upright_security s r k =
+      let n = upright.ranged in
       record {
         ranged = record {
           agents = n.agents;
@@ -99,23 +99,23 @@ module _ (x : State) (sound : Sound x) where
           borrowing = n.borrowing;
           loans = n.loans;
         };
-        borne = λ o. let b = sound.borne o in record { securities = b.securities; capped = b.capped; lines = b.lines; reserved = b.reserved };
+        borne = λ o. let b = upright.borne o in record { securities = b.securities; capped = b.capped; lines = b.lines; reserved = b.reserved };
       }
 
   security_ranged : (s : ℕ) → s < most_securities → PriceRanged (security_in x.kept s)
-  security_ranged s l = All-get_or PriceRanged x.kept.securities s no_security (omega (arith, sound.ranged.securities)) sound.ranged.prices
+  security_ranged s l = All-get_or PriceRanged x.kept.securities s no_security (omega (arith, upright.ranged.securities)) upright.ranged.prices
 
-  pub sound_eligible : (s : ℕ) (e : Bool) → s < most_securities → Sound (made_eligible x s e)
-  sound_eligible s e l =
-      let k = security_ranged s l in sound_security s _ (record { posted = k.posted; price = k.price })
+  pub upright_eligible : (s : ℕ) (e : Bool) → s < most_securities → Upright (made_eligible x s e)
+  upright_eligible s e l =
+      let k = security_ranged s l in upright_security s _ (record { posted = k.posted; price = k.price })
 
-  pub sound_posted : (s p : ℕ) → s < most_securities → p ≤ most_price → Sound (price_does x s p)
-  sound_posted s p l le = sound_security s _ (record { posted = le; price = (security_ranged s l).price })
+  pub upright_posted : (s p : ℕ) → s < most_securities → p ≤ most_price → Upright (price_does x s p)
+  upright_posted s p l le = upright_security s _ (record { posted = le; price = (security_ranged s l).price })
 
   -- requests are taken out
-  pub sound_taken : (test : Request → Bool) → Sound (taken_out test x)
-  sound_taken test =
-      let n = sound.ranged in
+  pub upright_taken : (test : Request → Bool) → Upright (taken_out test x)
+  upright_taken test =
+      let n = upright.ranged in
       record {
         ranged = record {
           agents = n.agents;
@@ -125,8 +125,8 @@ module _ (x : State) (sound : Sound x) where
           borrowing = all_others (λ b. test b.request) _ x.kept.borrowing n.borrowing;
           loans = n.loans;
         };
-        borne = λ o. borne_taken x (sound.borne o) test;
+        borne = λ o. borne_taken x (upright.borne o) test;
       }
 
-pub sound_stopped : (x : State) → Sound x → (s : ℕ) → s < most_securities → Sound (stop_does x s)
-sound_stopped x sound s l = sound_taken (made_eligible x s false) (sound_eligible x sound s false l) (in_security s)
+pub upright_stopped : (x : State) → Upright x → (s : ℕ) → s < most_securities → Upright (stop_does x s)
+upright_stopped x upright s l = upright_taken (made_eligible x s false) (upright_eligible x upright s false l) (in_security s)

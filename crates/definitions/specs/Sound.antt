@@ -46,9 +46,12 @@ pub record Borne (x : State) : Type 0 where
   pub lines : All (λ l. Inside x.held l.request.account l.request.security) x.kept.lending
   pub reserved : (a s : ℕ) → x.held.reserved a s ≡ left_of x.kept.lending a s
 
--- The state of a book: its numbers are in range, and if it was opened its register bears it out. A book that was not opened refuses
--- every call.
+-- The state of a book that was opened: no security has more shares than the cap. A book that was not opened refuses every call.
 pub record Sound (x : State) : Type 0 where
+  pub capped : x.kept.opened ≡ true → (s : ℕ) → s < x.held.securities → total_of x.held s ≤ the_cap
+
+-- And more: its numbers are in range, and if it was opened its register bears it out.
+pub record Upright (x : State) : Type 0 where
   pub ranged : Ranged x.kept
   pub borne : x.kept.opened ≡ true → Borne x
 
@@ -71,4 +74,4 @@ pub record Kempt (l : Ledger) : Type 0 where
 -- A register and a ledger that stand together: what every book has between calls.
 pub record Upheld (h : Holdings) (l : Ledger) : Type 0 where
   pub neat : Neat l
-  pub sound : Sound (state h l)
+  pub upright : Upright (state h l)

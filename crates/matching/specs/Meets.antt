@@ -3,9 +3,9 @@ use Rattle.std.specs.Prelude.{Some, None, Option}
 use Rattle.terms.specs.declared.records.BorrowingRequest.{BorrowingRequest}
 use Rattle.terms.specs.declared.records.LendingRequest.{LendingRequest}
 use Rattle.definitions.specs.Matching.{Matches}
-use Rattle.definitions.specs.States.{Kept}
+use Rattle.definitions.specs.States.{State}
 
 -- The place holds a partner of the request.
-abbrev pub Meets : Kept → Option LendingRequest → BorrowingRequest → Type 0
-Meets k None b = ⊥
-Meets k (Some l) b = Matches k l.request b.request
+abbrev pub Meets : State → Option LendingRequest → BorrowingRequest → Type 0
+Meets x None b = ⊥
+Meets x (Some l) b = Matches x l.request b.request

@@ -1,7 +1,8 @@
 //! Whether a lending and a borrowing request match.
 ghost use Rattle.std.specs.Prelude.{◌≡◌, Decides};
 ghost use Rattle.definitions.specs.Matching.{Matches, active as is_active, shares_with};
-ghost use Rattle.definitions.specs.States.{is_suspended, kept_of};
+ghost use Rattle.definitions.specs.States.{is_suspended, state};
+ghost use Rattle.register.specs.Holdings.{Holdings};
 
 use terms::ledger::Ledger;
 use terms::records::{Request, Sharing, Standing};
@@ -16,9 +17,10 @@ fn is_suspended(standing: Standing) -> bool
     }
 }
 
-/// Whether a request's agent is not suspended.
+/// Whether a request's agent is not suspended, whatever the register holds.
 pub fn is_active(ledger: &Ledger, request: &Request) -> bool
-    ensures { result ≡ is_active (kept_of ledger.now) request.now }
+    ghost held: { Holdings }
+    ensures { result ≡ is_active (state held ledger.now) request.now }
 {
     match ledger.agents.get(request.agent) {
         Some(agent) => !is_suspended(agent.standing),
@@ -37,9 +39,10 @@ fn shares_with(sharing: Sharing, own: u64, other: u64) -> bool
 }
 
 /// Whether a lending and a borrowing request match: the same security, two accounts, both active, a rate and a duration that suit
-/// both, and whichever is for one partner has no more left than the other.
+/// both, and whichever is for one partner has no more left than the other; whatever the register holds.
 pub fn is_match(ledger: &Ledger, lending: &Request, borrowing: &Request) -> bool
-    ensures { Decides result (Matches (kept_of ledger.now) lending.now borrowing.now) }
+    ghost held: { Holdings }
+    ensures { Decides result (Matches (state held ledger.now) lending.now borrowing.now) }
 {
     lending.security == borrowing.security
         && lending.account != borrowing.account

@@ -1,8 +1,9 @@
 //! The pair that is matched first.
 ghost use Rattle.definitions.specs.Matching.{FirstPair, NoPair};
 ghost use Rattle.definitions.specs.Sound.{Neat};
-ghost use Rattle.definitions.specs.States.{kept_of};
+ghost use Rattle.definitions.specs.States.{state};
 ghost use Rattle.matching.specs.Meets.{Meets};
+ghost use Rattle.register.specs.Holdings.{Holdings};
 ghost use Rattle.std.specs.Prelude.{Decides, MatchOption};
 
 use crate::pairs::is_match;
@@ -18,7 +19,8 @@ pub struct Places {
 
 // Whether a place holds a partner of a borrowing request.
 fn is_partner(ledger: &Ledger, place: &Option<LendingRequest>, borrowing: &BorrowingRequest) -> bool
-    ensures { Decides result (Meets (kept_of ledger.now) place.now borrowing.now) }
+    ghost held: { Holdings }
+    ensures { Decides result (Meets (state held ledger.now) place.now borrowing.now) }
 {
     match place {
         Some(lending) => is_match(ledger, &lending.request, &borrowing.request),
@@ -26,10 +28,12 @@ fn is_partner(ledger: &Ledger, place: &Option<LendingRequest>, borrowing: &Borro
     }
 }
 
-/// The first borrowing request that has a partner, with its first partner, in list order: `None` just if no pair matches.
+/// The first borrowing request that has a partner, with its first partner, in list order: `None` just if no pair matches. What the register
+/// holds makes no difference.
 pub fn first_pair(ledger: &Ledger) -> Option<Places>
+    ghost held: { Holdings }
     requires { Neat ledger.now }
-    ensures { MatchOption result (NoPair (kept_of ledger.now)) (λ p. FirstPair (kept_of ledger.now) p.lending p.borrowing) }
+    ensures { MatchOption result (NoPair (state held ledger.now)) (λ p. FirstPair (state held ledger.now) p.lending p.borrowing) }
 {
     'search: {
         for (borrowing, borrower) in ledger.requests.borrowing.iter().enumerate() {

@@ -12,7 +12,7 @@ unreachable-requires g c =
     let debit = c.in-Ok.ensures.change in
     let room : (debited h c.args.giver c.args.security c.args.quantity).free c.args.receiver c.args.security + c.args.quantity ≤ the_cap =
     room_to_move (state h c.args.ledger.now) c.requires c.args.giver c.args.receiver c.args.security c.args.quantity
-    debit.0.0 (omega arith) debit.0.2 ((c.requires.borne c.if-not-ledger.false).capped c.args.security debit.0.1) in
+    debit.0.0 (omega arith) debit.0.2 (c.requires.capped c.if-not-ledger.false c.args.security debit.0.1) in
     c.in-Err.ensures.change.0
     (subst (λ (k : Holdings). Creditable k c.args.receiver c.args.security c.args.quantity) (sym debit.1) (omega arith, debit.0.1, room))
 

@@ -2,7 +2,7 @@ use borrow.Author.Rules.{rules}
 use mathlib.Core.Bool.{true}
 use native.Mathlib.Omega.{arith}
 use Rattle.definitions.specs.States.{state}
-use Rattle.definitions.proofs.Ranges.{sound_eligible}
+use Rattle.definitions.proofs.Ranges.{upright_eligible}
 use Rattle.listing.proofs.admit.admit.Goals as goal
 
 pub returns : goal.returns
@@ -13,6 +13,6 @@ returns g c =
       step = search rules;
       upheld = record {
         neat = record { lending = neat.lending; borrowing = neat.borrowing; loans = neat.loans };
-        sound = sound_eligible x c.requires.sound c.args.security true (omega (arith, (c.requires.sound.borne c.if-not-ledger.false).securities));
+        upright = upright_eligible x c.requires.upright c.args.security true (omega (arith, (c.requires.upright.borne c.if-not-ledger.false).securities));
       };
     }

@@ -1,7 +1,7 @@
 use borrow.Author.Rules.{rules}
 use native.Mathlib.Omega.{arith}
 use Rattle.definitions.specs.States.{state}
-use Rattle.definitions.proofs.Ranges.{sound_posted}
+use Rattle.definitions.proofs.Ranges.{upright_posted}
 use Rattle.listing.proofs.price.price.Goals as goal
 
 pub returns : goal.returns
@@ -12,6 +12,6 @@ returns g c =
       step = search rules;
       upheld = record {
         neat = record { lending = neat.lending; borrowing = neat.borrowing; loans = neat.loans };
-        sound = sound_posted x c.requires.sound c.args.security c.args.cents (omega (arith, (c.requires.sound.borne c.if-not-ledger.false).securities)) (omega arith);
+        upright = upright_posted x c.requires.upright c.args.security c.args.cents (omega (arith, (c.requires.upright.borne c.if-not-ledger.false).securities)) (omega arith);
       };
     }

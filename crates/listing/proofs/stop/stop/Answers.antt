@@ -4,9 +4,9 @@ use mathlib.Core.Path.{sym, subst}
 use Prim.Native.Nat.{◌<◌}
 use native.Mathlib.Omega.{arith}
 use Rattle.definitions.specs.Limits.{most_securities}
-use Rattle.definitions.specs.Sound.{Sound}
+use Rattle.definitions.specs.Sound.{Upright}
 use Rattle.definitions.specs.States.{state}
-use Rattle.definitions.proofs.Ranges.{sound_eligible, sound_stopped}
+use Rattle.definitions.proofs.Ranges.{upright_eligible, upright_stopped}
 use Rattle.listing.proofs.stop.stop.Goals as goal
 
 pub remove_requests-requires : goal.remove_requests-requires
@@ -16,19 +16,19 @@ remove_requests-requires g c =
     let opened = c.if-not-ledger.false in
     record {
       neat = record { lending = neat.lending; borrowing = neat.borrowing; loans = neat.loans };
-      borne = (sound_eligible x c.requires.sound c.args.security false (omega (arith, (c.requires.sound.borne opened).securities))).borne opened;
+      borne = (upright_eligible x c.requires.upright c.args.security false (omega (arith, (c.requires.upright.borne opened).securities))).borne opened;
     }
 
 pub returns : goal.returns
 returns g c =
     let x = state (g.R.Register.holdings c.args.register.now) c.args.ledger.now in
-    let known : c.args.security < most_securities = omega (arith, (c.requires.sound.borne c.if-not-ledger.false).securities) in
+    let known : c.args.security < most_securities = omega (arith, (c.requires.upright.borne c.if-not-ledger.false).securities) in
     let removed = c.remove_requests.ensures in
     record {
       step = search rules;
       upheld = record {
         neat = removed.neat;
-        sound = subst Sound (sym removed.leaves) (sound_stopped x c.requires.sound c.args.security known);
+        upright = subst Upright (sym removed.leaves) (upright_stopped x c.requires.upright c.args.security known);
       };
       frame = removed.frame;
     }
