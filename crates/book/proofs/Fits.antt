@@ -4,7 +4,7 @@ use Rattle.std.specs.List.{AllByRecursion as All}
 use Rattle.std.proofs.lemmas.Bool.{and_left, and_parts, and_right, and_from, cases_eq}
 use Rattle.register.specs.Holdings.{Holdings, Inside, sum_reserved, the_cap, total_of}
 use Rattle.definitions.specs.Limits.{agent_count, kind_count, last_opening, most_accounts, most_securities, within}
-use Rattle.definitions.specs.Sound.{AgentRanged, PriceRanged, Sound}
+use Rattle.definitions.specs.Sound.{AgentRanged, PriceRanged, Upright}
 use Rattle.definitions.specs.States.{State, all_below, fit, new_agent, no_security, opening}
 use Rattle.definitions.proofs.Fitness.{fit_parts, none_reserved_lem}
 
@@ -33,8 +33,8 @@ all_same P x p zero = tt
 all_same P x p (suc n) = (p, all_same P x p n)
 
 -- A book is sound as it opens, on a register that has no shares on lines outside its counts.
-pub opening_sound : (h : Holdings) (day : ℕ) → ((a s : ℕ) → (Inside h a s → ⊥) → (h.free a s ≡ 0) × (h.reserved a s ≡ 0)) → Sound (opening h day)
-opening_sound h day out = record {
+pub opening_upright : (h : Holdings) (day : ℕ) → ((a s : ℕ) → (Inside h a s → ⊥) → (h.free a s ≡ 0) × (h.reserved a s ≡ 0)) → Upright (opening h day)
+opening_upright h day out = record {
   ranged = record {
     agents = refl;
     collateral = all_same AgentRanged new_agent (record { kinds = refl; capped = all_same (λ c. c ≤ the_cap) 0 (omega arith) kind_count }) agent_count;

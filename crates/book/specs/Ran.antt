@@ -5,7 +5,7 @@ use Rattle.terms.specs.declared.calls.Call.{Call}
 use Rattle.definitions.specs.Law.{Law}
 use Rattle.definitions.specs.Runs.{after, answers, trace}
 use Rattle.definitions.specs.States.{fit, opening}
-use Rattle.book.specs.Meaning.{Stands, state_of}
+use Rattle.book.specs.Meaning.{Stands, Whole, state_of}
 use Rattle.book.specs.declared.runs.Finished.{Finished}
 
 -- The run of a list of calls from a book that opened on the register and the calendar that were given.
@@ -16,6 +16,7 @@ pub record Ran {R C : Type 0} (holdings : R → Holdings) (frame : R → Frame) 
   -- the book is what the steps leave
   pub leaves : state_of holdings x.book ≡ after (opening (holdings register) day) calls
   pub stands : Stands holdings x.book
+  pub whole : Whole holdings x.book
   -- its calendar, and what lies around its register, are as they were
   pub days : x.book.calendar ≡ calendar
   pub around : frame x.book.register ≡ frame register

@@ -1,9 +1,11 @@
 //! A book, and the calls that may be put to it.
 ghost use Rattle.std.specs.Prelude.{◌≡◌};
-ghost use Rattle.book.specs.Meaning.{Called, Executed, Stands, answer_as, state_of};
+ghost use Rattle.book.specs.Meaning.{Called, Needs, Stands, Whole, counted_by, done_by, state_of};
+ghost use Rattle.definitions.specs.Custody.{deposit_asks, deposit_does, trade_asks, trade_does, withdraw_asks, withdraw_does};
+ghost use Rattle.definitions.specs.Questions.{Step};
+ghost use Rattle.definitions.specs.Runs.{answer_to, step as step_by};
 ghost use Rattle.definitions.specs.Standings.{suspensions};
 ghost use Rattle.definitions.specs.States.{opening};
-ghost use Rattle.terms.specs.declared.calls.Answer.TheVariants.{Done, Suspensions};
 ghost use Rattle.terms.specs.declared.calls.Call.TheVariants as calls;
 
 use crate::fitness::may_open;
@@ -15,7 +17,7 @@ use terms::records::{Agent, Security, Standing};
 
 // The answer of a call that answers nothing but that it is done.
 fn done(res: Result<(), Refusal>) -> Result<Answer, Refusal>
-    ensures { result ≡ answer_as (λ _. Done) res }
+    ensures { result ≡ done_by res }
 {
     match res {
         Ok(()) => Ok(Answer::Done),
@@ -25,11 +27,11 @@ fn done(res: Result<(), Refusal>) -> Result<Answer, Refusal>
 
 // The answer of noon.
 fn counted(res: Result<u64, Refusal>) -> Result<Answer, Refusal>
-    ensures { result ≡ answer_as Suspensions res }
+    ensures { result ≡ counted_by res }
 {
     match res {
         Ok(agents) => Ok(Answer::Suspensions(agents)),
-        Err(refusal) => Err(refusal),
+        Err(reason) => Err(reason),
     }
 }
 
@@ -46,6 +48,7 @@ impl<R: Register, C: Calendar> Book<R, C> {
     pub fn open(register: R, calendar: C, day: u64) -> Book<R, C>
         ensures state { state_of R.holdings result ≡ opening (R.holdings register) day }
         ensures stands { Stands R.holdings result }
+        ensures whole { Whole R.holdings result }
         ensures register { result.register ≡ register }
         ensures calendar { result.calendar ≡ calendar }
     {
@@ -81,7 +84,7 @@ impl<R: Register, C: Calendar> Book<R, C> {
 
     /// Makes a security eligible.
     pub fn admit(&mut self, security: u64) -> Result<(), Refusal>
-        requires { Stands R.holdings self.old }
+        requires { Whole R.holdings self.old }
         ensures { Called R.holdings R.frame (calls.Admit security) tt self.old self.new result }
     {
         listing::admit::admit(&mut self.ledger, &self.register, security)
@@ -89,7 +92,7 @@ impl<R: Register, C: Calendar> Book<R, C> {
 
     /// Ends a security's eligibility, and takes out its requests.
     pub fn stop(&mut self, security: u64) -> Result<(), Refusal>
-        requires { Stands R.holdings self.old }
+        requires { Whole R.holdings self.old }
         ensures { Called R.holdings R.frame (calls.Stop security) tt self.old self.new result }
     {
         listing::stop::stop(&mut self.ledger, &mut self.register, security)
@@ -97,7 +100,7 @@ impl<R: Register, C: Calendar> Book<R, C> {
 
     /// Posts a price of a security, in force from the next close.
     pub fn price(&mut self, security: u64, cents: u64) -> Result<(), Refusal>
-        requires { Stands R.holdings self.old }
+        requires { Whole R.holdings self.old }
         ensures { Called R.holdings R.frame (calls.Price security cents) tt self.old self.new result }
     {
         listing::price::price(&mut self.ledger, &self.register, security, cents)
@@ -106,7 +109,11 @@ impl<R: Register, C: Calendar> Book<R, C> {
     /// Brings shares onto a line.
     pub fn deposit(&mut self, account: u64, security: u64, quantity: u64) -> Result<(), Refusal>
         requires { Stands R.holdings self.old }
-        ensures { Called R.holdings R.frame (calls.Deposit account security quantity) tt self.old self.new result }
+        ensures step { Step (deposit_asks (state_of R.holdings self.old) account security quantity) tt (deposit_does (state_of R.holdings self.old) account security quantity) (state_of R.holdings self.old) (state_of R.holdings self.new) result }
+        ensures stands { Stands R.holdings self.new }
+        ensures calendar { self.new.calendar ≡ self.old.calendar }
+        ensures frame { R.frame self.new.register ≡ R.frame self.old.register }
+        ensures whole { Whole R.holdings self.old → Whole R.holdings self.new }
     {
         custody::deposit::deposit(
             &self.ledger,
@@ -120,7 +127,11 @@ impl<R: Register, C: Calendar> Book<R, C> {
     /// Takes free shares from a line.
     pub fn withdraw(&mut self, account: u64, security: u64, quantity: u64) -> Result<(), Refusal>
         requires { Stands R.holdings self.old }
-        ensures { Called R.holdings R.frame (calls.Withdraw account security quantity) tt self.old self.new result }
+        ensures step { Step (withdraw_asks (state_of R.holdings self.old) account security quantity) tt (withdraw_does (state_of R.holdings self.old) account security quantity) (state_of R.holdings self.old) (state_of R.holdings self.new) result }
+        ensures stands { Stands R.holdings self.new }
+        ensures calendar { self.new.calendar ≡ self.old.calendar }
+        ensures frame { R.frame self.new.register ≡ R.frame self.old.register }
+        ensures whole { Whole R.holdings self.old → Whole R.holdings self.new }
     {
         custody::withdraw::withdraw(
             &self.ledger,
@@ -140,7 +151,11 @@ impl<R: Register, C: Calendar> Book<R, C> {
         quantity: u64,
     ) -> Result<(), Refusal>
         requires { Stands R.holdings self.old }
-        ensures { Called R.holdings R.frame (calls.Trade giver receiver security quantity) tt self.old self.new result }
+        ensures step { Step (trade_asks (state_of R.holdings self.old) giver receiver security quantity) tt (trade_does (state_of R.holdings self.old) giver receiver security quantity) (state_of R.holdings self.old) (state_of R.holdings self.new) result }
+        ensures stands { Stands R.holdings self.new }
+        ensures calendar { self.new.calendar ≡ self.old.calendar }
+        ensures frame { R.frame self.new.register ≡ R.frame self.old.register }
+        ensures whole { Whole R.holdings self.old → Whole R.holdings self.new }
     {
         custody::trade::trade(
             &self.ledger,
@@ -154,7 +169,7 @@ impl<R: Register, C: Calendar> Book<R, C> {
 
     /// Adds to an agent's collateral of a kind.
     pub fn pledge(&mut self, agent: u64, kind: u64, cents: u64) -> Result<(), Refusal>
-        requires { Stands R.holdings self.old }
+        requires { Whole R.holdings self.old }
         ensures { Called R.holdings R.frame (calls.Pledge agent kind cents) tt self.old self.new result }
     {
         agents::pledge::pledge(&mut self.ledger, agent, kind, cents)
@@ -162,7 +177,7 @@ impl<R: Register, C: Calendar> Book<R, C> {
 
     /// Takes from an agent's collateral of a kind.
     pub fn unpledge(&mut self, agent: u64, kind: u64, cents: u64) -> Result<(), Refusal>
-        requires { Stands R.holdings self.old }
+        requires { Whole R.holdings self.old }
         ensures { Called R.holdings R.frame (calls.Unpledge agent kind cents) tt self.old self.new result }
     {
         agents::unpledge::unpledge(&mut self.ledger, agent, kind, cents)
@@ -170,7 +185,7 @@ impl<R: Register, C: Calendar> Book<R, C> {
 
     /// Suspends an agent.
     pub fn suspend(&mut self, agent: u64) -> Result<(), Refusal>
-        requires { Stands R.holdings self.old }
+        requires { Whole R.holdings self.old }
         ensures { Called R.holdings R.frame (calls.Suspend agent) tt self.old self.new result }
     {
         agents::suspend::suspend(&mut self.ledger, agent)
@@ -178,7 +193,7 @@ impl<R: Register, C: Calendar> Book<R, C> {
 
     /// Decides on the agents that were notified, and answers how many it suspended.
     pub fn noon(&mut self) -> Result<u64, Refusal>
-        requires { Stands R.holdings self.old }
+        requires { Whole R.holdings self.old }
         ensures { Called R.holdings R.frame calls.Noon (suspensions (state_of R.holdings self.old).kept) self.old self.new result }
     {
         agents::noon::noon(&mut self.ledger)
@@ -186,8 +201,14 @@ impl<R: Register, C: Calendar> Book<R, C> {
 
     /// Puts any call to the book.
     pub fn execute(&mut self, call: Call) -> Result<Answer, Refusal>
-        requires { Stands R.holdings self.old }
-        ensures { Executed R.holdings R.frame call self.old self.new result }
+        requires stands { Stands R.holdings self.old }
+        requires whole { Needs call (Whole R.holdings self.old) }
+        ensures says { result ≡ answer_to (state_of R.holdings self.old) call }
+        ensures leaves { state_of R.holdings self.new ≡ (step_by (state_of R.holdings self.old) call).leaves }
+        ensures stands { Stands R.holdings self.new }
+        ensures calendar { self.new.calendar ≡ self.old.calendar }
+        ensures frame { R.frame self.new.register ≡ R.frame self.old.register }
+        ensures whole { Whole R.holdings self.old → Whole R.holdings self.new }
     {
         match call {
             Call::Admit { security } => done(self.admit(security)),

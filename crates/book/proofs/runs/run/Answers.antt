@@ -8,6 +8,7 @@ use Rattle.definitions.specs.States.{State, opening}
 use Rattle.definitions.proofs.LawProof.{law}
 use Rattle.book.specs.Meaning.{state_of}
 use Rattle.book.specs.declared.runs.Entry.{Entry}
+use Rattle.book.proofs.Answering.{needs_whole}
 use Rattle.book.proofs.Going.{Going, going_start, going_next, going_end}
 use Rattle.book.proofs.runs.run.Goals as goal
 
@@ -18,10 +19,13 @@ loop-call-init g c =
       subst (Going x c.args.calls.now c.args.calls.now x) (sym made.items) (going_start x c.args.calls.now),
       made.len,
       made.capacity,
-      c.open-book.ensures.stands,
+      c.open-book.ensures.whole,
       refl,
       refl,
     )
+
+pub execute-answer-requires-clause-whole : goal.execute-answer-requires-clause-whole
+execute-answer-requires-clause-whole g c = needs_whole _ c.loop-call.invariant.3
 
 pub loop-call-preserved : goal.loop-call-preserved
 loop-call-preserved g c =
@@ -39,9 +43,9 @@ loop-call-preserved g c =
       subst (λ (l : List Entry). Going x calls (drop (i + 1) calls) z l) (sym c.push_reserved.ensures.items) next,
       omega arith,
       omega arith,
-      c.execute-answer.ensures.stands,
+      c.execute-answer.ensures.whole inv.3,
       c.execute-answer.ensures.calendar ∙ inv.4,
-      c.execute-answer.ensures.around ∙ inv.5,
+      c.execute-answer.ensures.frame ∙ inv.5,
     )
 
 pub returns : goal.returns
@@ -58,7 +62,8 @@ returns g c =
       asked = end.0;
       answered = end.1 ∙ ap (λ (s : State). answers s calls) start.state;
       leaves = leaves;
-      stands = inv.3;
+      stands = inv.3.stands;
+      whole = inv.3;
       days = inv.4 ∙ start.calendar;
       around = inv.5 ∙ ap g.R.Register.frame start.register;
       law = λ fit.

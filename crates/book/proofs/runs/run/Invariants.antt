@@ -1,5 +1,5 @@
 use Rattle.std.proofs.Common.{◌≡◌, ◌≤◌, length, drop, vec_items, vec_len, vec_capacity}
-use Rattle.book.specs.Meaning.{Stands, state_of}
+use Rattle.book.specs.Meaning.{Whole, state_of}
 use Rattle.book.proofs.Going.{Going}
 use Rattle.book.proofs.runs.run.Given as goal
 
@@ -9,6 +9,6 @@ invariant-loop-call g l =
     Going (state_of holdings l.initial.book) l.calls (drop l.call-index l.calls) (state_of holdings l.book) (vec_items l.journal)
     × (vec_len l.journal ≡ l.call-index)
     × (length l.calls ≤ vec_capacity l.journal)
-    × Stands holdings l.book
+    × Whole holdings l.book
     × (l.book.calendar ≡ l.initial.book.calendar)
     × (g.R.Register.frame l.book.register ≡ g.R.Register.frame l.initial.book.register)
