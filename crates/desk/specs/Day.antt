@@ -7,7 +7,7 @@ use Rattle.terms.specs.declared.calls.Refusal.{Refusal}
 use Rattle.terms.specs.declared.calls.Refusal.TheVariants.{Unopened}
 use Rattle.definitions.specs.Limits.{last_opening, most_accounts, most_securities}
 use Rattle.definitions.specs.Runs.{answer_to, step}
-use Rattle.definitions.specs.States.{State, no_shares, opening}
+use Rattle.definitions.specs.States.{State, opening}
 use Rattle.words.specs.Parts.{lines}
 use Rattle.instructions.specs.Answers.{reply_text}
 use Rattle.instructions.specs.Faults.{of_line}
@@ -26,7 +26,7 @@ most_bytes = 65536
 
 -- The register that a start opens the book on: 64 accounts, 16 securities, and no share on any line.
 abbrev pub zeros : Holdings
-zeros = no_shares most_accounts most_securities
+zeros = record { accounts = most_accounts; securities = most_securities; free = λ a s. 0; reserved = λ a s. 0 }
 
 -- The book, once one was opened.
 abbrev pub Session : Type 0

@@ -112,8 +112,8 @@ verbs Start l = asks day _ l _ (λ d. ends (after 1 l) _)
 verbs Admit l = one _ l
 verbs Stop l = one _ l
 verbs Price l = asks number _ l _ (λ s. asks number _ (after 1 l) _ (λ c. ends (after 2 l) _))
-verbs Deposit l = three _ l
-verbs Withdraw l = three _ l
+verbs Deposit l = asks number _ l _ (λ a. asks number _ (after 1 l) _ (λ s. asks number _ (after 2 l) _ (λ q. ends (after 3 l) _)))
+verbs Withdraw l = asks number _ l _ (λ a. asks number _ (after 1 l) _ (λ s. asks number _ (after 2 l) _ (λ q. ends (after 3 l) _)))
 verbs Trade l =
     asks number _ l _ (λ g. asks number _ (after 1 l) _ (λ r. asks number _ (after 2 l) _ (λ s. asks number _ (after 3 l) _ (λ q. ends (after 4 l) _))))
 verbs Pledge l = three _ l

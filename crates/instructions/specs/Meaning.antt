@@ -70,11 +70,21 @@ prices l =
 
 -- deposit account security quantity
 abbrev pub deposits : Left → Result Instruction LineFault
-deposits l = calls (λ x. c.Deposit x.0 x.1 x.2) (three_numbers l)
+deposits l =
+    then (field number l) (λ account.
+    then (field number (after 1 l)) (λ security.
+    then (field number (after 2 l)) (λ quantity.
+    then (done (after 3 l)) (λ _.
+    Ok (i.Call (c.Deposit account security quantity))))))
 
 -- withdraw account security quantity
 abbrev pub withdraws : Left → Result Instruction LineFault
-withdraws l = calls (λ x. c.Withdraw x.0 x.1 x.2) (three_numbers l)
+withdraws l =
+    then (field number l) (λ account.
+    then (field number (after 1 l)) (λ security.
+    then (field number (after 2 l)) (λ quantity.
+    then (done (after 3 l)) (λ _.
+    Ok (i.Call (c.Withdraw account security quantity))))))
 
 -- trade giver receiver security quantity
 abbrev pub trades : Left → Result Instruction LineFault

@@ -3,7 +3,7 @@ ghost use Rattle.std.specs.Prelude.{◌≡◌};
 ghost use Rattle.instructions.specs.Faults.{of_word, of_line, program_fault_number, program_fault_place};
 
 use terms::faults::Fault;
-use words::faults::WordFault;
+pub use words::faults::WordFault;
 
 /// What is wrong with a line, and at which place: 0 for the line as a whole.
 #[derive(Clone, Copy)]

@@ -5,6 +5,8 @@ pub mod instruction;
 pub mod parse;
 pub mod theorems;
 
+pub use words::{kinds, lines, reader, verbs};
+
 #[cfg(test)]
 mod tests {
     use crate::answers::{Reply, reply_text};
@@ -87,6 +89,11 @@ mod tests {
     fn replies(rt: HostRuntime) -> Result<(), Fail> {
         let text = reply_text(rt.alloc(), 12, Reply::Refused(Refusal::TooFewShares))?;
         assert!(rt; text.as_str() == "12 no 10\n");
+        Ok(())
+    }
+
+    #[test]
+    fn reply_of_noon(rt: HostRuntime) -> Result<(), Fail> {
         let text = reply_text(rt.alloc(), 12, Reply::Answered(Answer::Suspensions(0)))?;
         assert!(rt; text.as_str() == "12 ok 0\n");
         Ok(())

@@ -72,7 +72,10 @@ fn price(words: &mut Reader) -> Result<Instruction, LineFault>
 fn deposit(words: &mut Reader) -> Result<Instruction, LineFault>
     ensures { result ≡ deposits (left words.old) }
 {
-    let (account, security, quantity) = three_numbers(words)?;
+    let account = words.number()?;
+    let security = words.number()?;
+    let quantity = words.number()?;
+    words.end()?;
     Ok(Instruction::Call(Call::Deposit {
         account,
         security,
@@ -84,7 +87,10 @@ fn deposit(words: &mut Reader) -> Result<Instruction, LineFault>
 fn withdraw(words: &mut Reader) -> Result<Instruction, LineFault>
     ensures { result ≡ withdraws (left words.old) }
 {
-    let (account, security, quantity) = three_numbers(words)?;
+    let account = words.number()?;
+    let security = words.number()?;
+    let quantity = words.number()?;
+    words.end()?;
     Ok(Instruction::Call(Call::Withdraw {
         account,
         security,

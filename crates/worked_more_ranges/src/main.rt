@@ -1,0 +1,7 @@
+//! A worked day of numbers at the ends of their ranges.
+use desk::console::answer_input;
+use std::io;
+
+fn main(rt: HostRuntime) -> io::Result<()> {
+    answer_input(&rt)
+}
