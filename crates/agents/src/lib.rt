@@ -1,4 +1,6 @@
 //! The agents: what they pledge, and how they stand. The calls pledge, unpledge, suspend and noon.
+#![tactic(auto)]
+
 pub mod noon;
 pub mod pledge;
 pub mod suspend;

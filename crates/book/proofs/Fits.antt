@@ -1,6 +1,6 @@
 -- A register is unfit by one of its securities.
 use Rattle.std.proofs.Common.{◌≡◌, ℕ, zero, suc, ◌+◌, ◌<◌, ◌≤◌, Bool, true, false, ◌&&◌, eqb, leb, [], replicate, sym, refl, ap, ◌∙◌, ⊎_elim, add-one, arith}
-use Rattle.std.specs.List.{AllByRecursion as All}
+use Rattle.std.specs.List.{AllByRecursion as Each}
 use Rattle.std.proofs.lemmas.Bool.{and_left, and_parts, and_right, and_from, cases_eq}
 use Rattle.register.specs.Holdings.{Holdings, Inside, sum_reserved, the_cap, total_of}
 use Rattle.definitions.specs.Limits.{agent_count, kind_count, last_opening, most_accounts, most_securities, within}
@@ -28,7 +28,7 @@ unfit h k l e =
 abbrev pub opened_by : Holdings → ℕ → Bool → State
 opened_by h day o = record { held = h; kept = record { opened = o; today = day; securities = (opening h day).kept.securities; agents = (opening h day).kept.agents; lending = []; borrowing = []; updates = 0; loans = []; references = 0 } }
 
-all_same : {X : Type 0} (P : X → Type 0) (x : X) → P x → (n : ℕ) → All P (replicate n x)
+all_same : {X : Type 0} (P : X → Type 0) (x : X) → P x → (n : ℕ) → Each P (replicate n x)
 all_same P x p zero = tt
 all_same P x p (suc n) = (p, all_same P x p n)
 

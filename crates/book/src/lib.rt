@@ -1,4 +1,6 @@
 //! The book: a register, a calendar and a ledger that stay in step, whatever calls are put to it.
+#![tactic(auto)]
+
 pub mod books;
 mod fitness;
 pub mod runs;

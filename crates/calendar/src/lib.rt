@@ -1,4 +1,6 @@
 //! Calendars: which days are business days, and the tenth business day after a day.
+#![tactic(auto)]
+
 ghost use Rattle.std.specs.Prelude.{◌≡◌, ℕ, Bool};
 ghost use Rattle.calendar.specs.Business.{Bounded};
 

@@ -1,6 +1,6 @@
 -- The turns of the loop that sums needs over the records in places.
 use Rattle.std.proofs.Common.{◌≡◌, ℕ, ◌+◌, List, [], ◌∷◌, drop, Option, sym, ap, ◌∙◌, subst, arith}
-use Rattle.std.specs.List.{AllByRecursion as All}
+use Rattle.std.specs.List.{AllByRecursion as Each}
 use Rattle.ordered.specs.Places.{records}
 use Rattle.terms.specs.declared.records.Exposure.{Exposure}
 use Rattle.definitions.specs.Cover.{need_for}
@@ -24,12 +24,12 @@ module _ {X : Type 0} (k : Kept) (g : ℕ) (exposes : X → Exposure) (ps : List
         omega arith
 
 -- Where all records are in range, the first is, and so is the rest.
-module _ {X : Type 0} (exposes : X → Exposure) (x : X) (xs ys : List X) (more : xs ≡ x ∷ ys) (all : All (λ y. ExposureRanged (exposes y)) xs) where
-  parts : All (λ y. ExposureRanged (exposes y)) (x ∷ ys)
-  parts = subst (All (λ y. ExposureRanged (exposes y))) more all
+module _ {X : Type 0} (exposes : X → Exposure) (x : X) (xs ys : List X) (more : xs ≡ x ∷ ys) (all : Each (λ y. ExposureRanged (exposes y)) xs) where
+  parts : Each (λ y. ExposureRanged (exposes y)) (x ∷ ys)
+  parts = subst (Each (λ y. ExposureRanged (exposes y))) more all
 
   pub ranged_first : (e : Exposure) → e ≡ exposes x → ExposureRanged e
   ranged_first e is = subst ExposureRanged (sym is) parts.0
 
-  pub ranged_rest : All (λ y. ExposureRanged (exposes y)) ys
+  pub ranged_rest : Each (λ y. ExposureRanged (exposes y)) ys
   ranged_rest = parts.1

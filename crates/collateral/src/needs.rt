@@ -5,7 +5,7 @@ ghost use Rattle.definitions.specs.Limits.{most_price, most_quantity};
 ghost use Rattle.definitions.specs.Sound.{ExposureRanged, Kempt};
 ghost use Rattle.definitions.specs.States.{kept_of, total};
 ghost use Rattle.ordered.specs.Places.{records};
-ghost use Rattle.std.specs.List.{AllByRecursion as All};
+ghost use Rattle.std.specs.List.{AllByRecursion as Each};
 
 use crate::exposures::Exposed;
 use tariff::cover::need;
@@ -33,7 +33,7 @@ fn need_for(ledger: &Ledger, agent: usize, exposure: Exposure) -> u64
 fn need_for_all<T: Exposed>(ledger: &Ledger, agent: usize, places: &[Option<T>]) -> u64
     requires kempt { Kempt ledger.now }
     requires few { length places.now ≤ 128 }
-    requires ranged { All (λ x. ExposureRanged (T.exposes x)) (records places.now) }
+    requires ranged { Each (λ x. ExposureRanged (T.exposes x)) (records places.now) }
     ensures value { result ≡ total (λ x. need_for (kept_of ledger.now) agent (T.exposes x)) (records places.now) }
     ensures bound { result ≤ 128 * need_of most_quantity most_price }
 {

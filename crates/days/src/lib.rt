@@ -1,4 +1,6 @@
 //! Day numbers, dates and weekdays. Day 0 is Saturday 1 January 2000, and day 18,262 is 31 December 2049.
+#![tactic(auto)]
+
 pub mod dates;
 mod table;
 pub mod theorems;

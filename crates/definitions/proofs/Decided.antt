@@ -1,6 +1,6 @@
 -- What noon and stop come to.
 use Rattle.std.proofs.Common.{◌≡◌, ℕ, ◌+◌, ◌≤◌, Bool, true, false, cond, not, ◌&&◌, List, length, sym, refl, ap, ◌∙◌, subst}
-use Rattle.std.specs.List.{AllByRecursion as All}
+use Rattle.std.specs.List.{AllByRecursion as Each}
 use Rattle.std.proofs.ByRecursion.{All-weaker, kept_by_passes}
 use Rattle.std.proofs.lemmas.List.{get_or_past}
 use Rattle.std.proofs.lemmas.Bool.{not-true, true≢false}
@@ -61,9 +61,9 @@ module _ (k : Kept) where
   }
 
 -- None of the others passes.
-others_fail : {X : Type 0} (test : X → Bool) (xs : List X) → All (λ x. test x ≡ false) (others test xs)
+others_fail : {X : Type 0} (test : X → Bool) (xs : List X) → Each (λ x. test x ≡ false) (others test xs)
 others_fail test xs =
-    subst (All (λ x. test x ≡ false)) (sym (those_kept_by (λ x. not (test x)) xs))
+    subst (Each (λ x. test x ≡ false)) (sym (those_kept_by (λ x. not (test x)) xs))
     (All-weaker (λ x. not (test x) ≡ true) (λ x. test x ≡ false) (λ x e. not-true (test x) e) _ (kept_by_passes (λ x. not (test x)) xs))
 
 pub decide : CallsDecide

@@ -1,6 +1,6 @@
 -- The law of runs, by one step after another.
 use Rattle.std.proofs.Common.{◌≡◌, ℕ, ◌+◌, Bool, false, cond, List, [], ◌∷◌, length, Some, None, Ok, Option, refl, ◌∙◌, arith}
-use Rattle.std.specs.List.{AllByRecursion as All}
+use Rattle.std.specs.List.{AllByRecursion as Each}
 use Rattle.std.proofs.lemmas.List.{length-set}
 use Rattle.std.proofs.lemmas.Bool.{leb-true, le-ltb}
 use Rattle.std.proofs.lemmas.Bool.Decides.{nat_tests}
@@ -90,7 +90,7 @@ does_named n x (call.Suspend g) = record { even = omega arith; made = omega arit
 does_named n x call.Noon = record { even = omega arith; made = omega arith }
 
 -- The lines that an accepted call writes are in time.
-lines_timely : (days : ℕ → Bool) (x : State) (c : Call) → All (InTime days x) (lines x c)
+lines_timely : (days : ℕ → Bool) (x : State) (c : Call) → Each (InTime days x) (lines x c)
 lines_timely days x (call.Admit t) = tt
 lines_timely days x (call.Stop t) = tt
 lines_timely days x (call.Price t p) = tt
@@ -129,7 +129,7 @@ record Good (closed : ℕ → ℕ) (made : ℕ) (x : State) : Type 0 where
 record Stepped (days : ℕ → Bool) (closed : ℕ → ℕ) (made : ℕ) (e : Entry) : Type 0 where
   shifts : (a s : ℕ) → Shift a s e.before e.reply.leaves (incoming_by a s (moved e)) (outgoing_by a s (moved e))
   good : Good (λ n. closed n + (cash_closings n (moved e) + line_closings n e.reply.writes)) (made + loans_said e.reply.says) e.reply.leaves
-  timely : All (InTime days e.before) e.reply.writes
+  timely : Each (InTime days e.before) e.reply.writes
 
 -- An entry by the first no.
 abbrev entry_by : State → Call → Option Refusal → Entry
@@ -165,7 +165,7 @@ stepped days closed made x c h = stepped_by days closed made x c (first_no (asks
 record Runs (days : ℕ → Bool) (closed : ℕ → ℕ) (made : ℕ) (x : State) (es : List Entry) (y : State) : Type 0 where
   shifts : (a s : ℕ) → Shift a s x y (incoming a s es) (outgoing a s es)
   good : Good (λ n. closed n + closings n es) (made + total (λ e. loans_said e.reply.says) es) y
-  timely : All (λ e. All (InTime days e.before) e.reply.writes) es
+  timely : Each (λ e. Each (InTime days e.before) e.reply.writes) es
 
 runs : (days : ℕ → Bool) (cs : List Call) (closed : ℕ → ℕ) (made : ℕ) (x : State) → Good closed made x → Runs days closed made x (trace x cs) (after x cs)
 runs days [] closed made x h = record {

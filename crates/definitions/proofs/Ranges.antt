@@ -1,6 +1,6 @@
 -- The changes of a ledger that keep a book upright.
 use Rattle.std.proofs.Common.{◌≡◌, ℕ, zero, suc, ◌-◌, ◌<◌, ◌≤◌, Bool, false, List, [], ◌∷◌, length, get_or, set, ◌∙◌, arith}
-use Rattle.std.specs.List.{AllByRecursion as All}
+use Rattle.std.specs.List.{AllByRecursion as Each}
 use Rattle.std.proofs.ByRecursion.{All-get_or, All-set}
 use Rattle.std.proofs.lemmas.List.{length-set}
 use Rattle.register.specs.Holdings.{the_cap}
@@ -22,7 +22,7 @@ use Rattle.definitions.specs.States.{State, Kept, agent_in, security_in, no_agen
 use Rattle.definitions.proofs.Released.{backs_those, released_total, taken_reserved}
 
 -- Each number of cents is within the cap, and one that is not there is 0.
-cents_capped : (cents : List ℕ) (kind : ℕ) → All (λ c. c ≤ the_cap) cents → get_or cents kind 0 ≤ the_cap
+cents_capped : (cents : List ℕ) (kind : ℕ) → Each (λ c. c ≤ the_cap) cents → get_or cents kind 0 ≤ the_cap
 cents_capped [] kind all = omega arith
 cents_capped (c ∷ cents) zero all = all.0
 cents_capped (c ∷ cents) (suc kind) all = cents_capped cents kind all.1
@@ -40,7 +40,7 @@ borne_taken x b test = record {
 pub event_ranged : (a : Agent) (e : Event) → AgentRanged a → AgentRanged (agent_after a e)
 event_ranged a e r = record { kinds = r.kinds; capped = r.capped }
 
-noon_ranged : (k : Kept) (from : ℕ) (gs : List Agent) → All AgentRanged gs → All AgentRanged (map_from (at_noon k) from gs)
+noon_ranged : (k : Kept) (from : ℕ) (gs : List Agent) → Each AgentRanged gs → Each AgentRanged (map_from (at_noon k) from gs)
 noon_ranged k from [] all = tt
 noon_ranged k from (a ∷ gs) all = (event_ranged a (Noon (short_in k from)) all.0, noon_ranged k (suc from) gs all.1)
 
@@ -49,7 +49,7 @@ module _ (k : Kept) (ranged : Ranged k) where
   agent_ranged g l = All-get_or AgentRanged k.agents g no_agent (omega (arith, ranged.agents)) ranged.collateral
 
   -- other agents
-  pub ranged_agents : (gs : List Agent) → length gs ≡ agent_count → All AgentRanged gs → Ranged (with_agents k gs)
+  pub ranged_agents : (gs : List Agent) → length gs ≡ agent_count → Each AgentRanged gs → Ranged (with_agents k gs)
   ranged_agents gs long all =
       record { agents = long; collateral = all; securities = ranged.securities; prices = ranged.prices; borrowing = ranged.borrowing; loans = ranged.loans }
 

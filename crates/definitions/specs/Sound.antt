@@ -1,7 +1,7 @@
 -- What holds of every book between calls.
 use Rattle.std.specs.Prelude.{◌≡◌, ℕ, ◌<◌, ◌≤◌, Bool, true, List, length, Option}
 use Rattle.std.specs.Option.{unwrap_or}
-use Rattle.std.specs.List.{AllByRecursion as All}
+use Rattle.std.specs.List.{AllByRecursion as Each}
 use Rattle.register.specs.Holdings.{Inside, Holdings, the_cap, total_of}
 use Rattle.ordered.specs.Places.{Ordered}
 use Rattle.terms.specs.Orders.{lends_before, borrows_before, returns_before}
@@ -17,7 +17,7 @@ use Rattle.definitions.specs.States.{State, Kept, kept_of, state}
 -- An agent has cents in four kinds, in each at most the cap.
 pub record AgentRanged (a : Agent) : Type 0 where
   pub kinds : length a.cents ≡ kind_count
-  pub capped : All (λ c. c ≤ the_cap) a.cents
+  pub capped : Each (λ c. c ≤ the_cap) a.cents
 
 -- No price, posted or in force, is too high.
 pub record PriceRanged (s : Security) : Type 0 where
@@ -32,18 +32,18 @@ pub record ExposureRanged (e : Exposure) : Type 0 where
 -- The numbers that a ledger keeps are in range, so that no sum of them runs over.
 pub record Ranged (k : Kept) : Type 0 where
   pub agents : length k.agents ≡ agent_count
-  pub collateral : All AgentRanged k.agents
+  pub collateral : Each AgentRanged k.agents
   pub securities : length k.securities ≡ most_securities
-  pub prices : All PriceRanged k.securities
-  pub borrowing : All (λ b. ExposureRanged (request_exposure b)) k.borrowing
-  pub loans : All (λ l. ExposureRanged (loan_exposure l)) k.loans
+  pub prices : Each PriceRanged k.securities
+  pub borrowing : Each (λ b. ExposureRanged (request_exposure b)) k.borrowing
+  pub loans : Each (λ l. ExposureRanged (loan_exposure l)) k.loans
 
 -- The register bears the ledger out: it is small enough, no security has more shares than the cap, each lending request is on a
 -- line that there is, and what is left of the requests is what is reserved.
 pub record Borne (x : State) : Type 0 where
   pub securities : x.held.securities ≤ most_securities
   pub capped : (s : ℕ) → s < x.held.securities → total_of x.held s ≤ the_cap
-  pub lines : All (λ l. Inside x.held l.request.account l.request.security) x.kept.lending
+  pub lines : Each (λ l. Inside x.held l.request.account l.request.security) x.kept.lending
   pub reserved : (a s : ℕ) → x.held.reserved a s ≡ left_of x.kept.lending a s
 
 -- The state of a book that was opened: no security has more shares than the cap. A book that was not opened refuses every call.

@@ -1,6 +1,6 @@
 -- What noon and stop come to, beside how they are defined.
 use Rattle.std.specs.Prelude.{◌≡◌, ℕ, ◌+◌, false}
-use Rattle.std.specs.List.{AllByRecursion as All}
+use Rattle.std.specs.List.{AllByRecursion as Each}
 use Rattle.register.specs.Holdings.{registered}
 use Rattle.definitions.specs.Limits.{agent_count}
 use Rattle.definitions.specs.Listing.{in_security, stop_does}
@@ -17,8 +17,8 @@ pub record NoonDecides (k : Kept) : Type 0 where
 -- No request of a security that was stopped is left, its loans are as they were, and so are the registered shares of every line, where
 -- what is left of requests was reserved.
 pub record StopClears (x : State) (s : ℕ) : Type 0 where
-  pub lending : All (λ l. in_security s l.request ≡ false) (stop_does x s).kept.lending
-  pub borrowing : All (λ b. in_security s b.request ≡ false) (stop_does x s).kept.borrowing
+  pub lending : Each (λ l. in_security s l.request ≡ false) (stop_does x s).kept.lending
+  pub borrowing : Each (λ b. in_security s b.request ≡ false) (stop_does x s).kept.borrowing
   pub loans : (stop_does x s).kept.loans ≡ x.kept.loans
   pub lines : ((a t : ℕ) → x.held.reserved a t ≡ left_of x.kept.lending a t) → (a t : ℕ) → registered (stop_does x s).held a t ≡ registered x.held a t
 

@@ -1,4 +1,6 @@
 //! The definitions of the book stand in specs/; the functions here carry the theorems on them.
+#![tactic(auto)]
+
 ghost use Rattle.definitions.specs.Law.{LawOfRuns};
 ghost use Rattle.definitions.specs.Matching.{OneFirstPair};
 ghost use Rattle.definitions.specs.States.{State};

@@ -1,4 +1,6 @@
 //! The desk at which a day's instructions are taken: from the bytes of a text to the bytes of the answers.
+#![tactic(auto)]
+
 pub mod console;
 pub mod day;
 mod plan;

@@ -1,4 +1,6 @@
 //! Share registers in bytes: a view that only reads, and a register over the caller's own bytes.
+#![tactic(auto)]
+
 ghost use Rattle.std.specs.Prelude.{◌≡◌};
 ghost use Rattle.image.specs.Image.{frame_of, imaged};
 ghost use Rattle.image.specs.Zero.{imaged_outside};

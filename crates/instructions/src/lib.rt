@@ -1,4 +1,6 @@
 //! The instructions of a day: what a line asks for or what is wrong with it, and the texts of the answers.
+#![tactic(auto)]
+
 pub mod answers;
 pub mod faults;
 pub mod instruction;

@@ -1,3 +1,5 @@
 //! Which requests match, and the pair that is matched first.
+#![tactic(auto)]
+
 pub mod pairs;
 pub mod search;

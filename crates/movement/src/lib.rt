@@ -1,4 +1,6 @@
 //! A share register over an opening that it only reads, with a movement beside each number.
+#![tactic(auto)]
+
 ghost use Rattle.std.specs.Prelude.{◌≡◌, ◌*◌, ◌<◌, ◌≤◌, pos, IfOk, MatchResult, slice_index_or};
 ghost use Rattle.register.specs.Holdings.{Inside, the_cap, with_free, with_reserved};
 ghost use Rattle.image.specs.View.{image_of};

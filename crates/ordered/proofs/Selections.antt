@@ -2,7 +2,7 @@
 use Rattle.std.proofs.Common.{◌≡◌, ℕ, ◌+◌, Bool, true, false, cond, not, List, [], ◌∷◌, length, filter, sym, refl, ap, ◌∙◌, subst, arith}
 use Rattle.std.proofs.ByRecursion.{all_kept_by}
 use Rattle.std.proofs.lemmas.Bool.{and_parts, and_from}
-use Rattle.std.specs.List.{AllByRecursion as All}
+use Rattle.std.specs.List.{AllByRecursion as Each}
 use Rattle.ordered.specs.Places.{first, ascending}
 use Rattle.ordered.specs.Selected.{keep_if, those, others}
 
@@ -15,11 +15,11 @@ module _ {X : Type 0} (test : X → Bool) where
   those_kept_by [] = refl
   those_kept_by (x ∷ xs) = keep_if_cond (test x) x (those test xs) ∙ ap (λ l. cond (test x) (x ∷ l) l) (those_kept_by xs)
 
-  pub all_those : (P : X → Type 0) (xs : List X) → All P xs → All P (those test xs)
-  all_those P xs h = subst (All P) (sym (those_kept_by xs)) (all_kept_by test P xs h)
+  pub all_those : (P : X → Type 0) (xs : List X) → Each P xs → Each P (those test xs)
+  all_those P xs h = subst (Each P) (sym (those_kept_by xs)) (all_kept_by test P xs h)
 
 module _ {X : Type 0} (test : X → Bool) where
-  pub all_others : (P : X → Type 0) (xs : List X) → All P xs → All P (others test xs)
+  pub all_others : (P : X → Type 0) (xs : List X) → Each P xs → Each P (others test xs)
   all_others = all_those (λ x. not (test x))
 
 -- any sum over a list is the sum over those and the sum over the others

@@ -1,4 +1,6 @@
 //! Works step by step on two small ordered lists, one of offers and one of codes, and prints each answer and the list after it.
+#![tactic(auto)]
+
 ghost use Rattle.ordered.specs.Places.{Ordered};
 
 mod codes;

@@ -1,4 +1,6 @@
 //! Share registers: what a register holds, and what it promises of each question and each change.
+#![tactic(auto)]
+
 ghost use Rattle.std.specs.Prelude.{◌≡◌};
 ghost use Rattle.register.specs.Holdings.{Changes, Creditable, Debitable, Frame, Holdable, Holdings, Outside, Releasable, credited, debited, held, released};
 

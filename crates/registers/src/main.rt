@@ -1,4 +1,6 @@
 //! Puts one list of changes to a register in bytes and to a movement register over the same bytes, and prints what each answers.
+#![tactic(auto)]
+
 mod changes;
 mod lists;
 mod samples;

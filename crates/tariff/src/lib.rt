@@ -1,4 +1,6 @@
 //! What a loan is worth, asks for in collateral, and costs.
+#![tactic(auto)]
+
 pub mod bills;
 pub mod cover;
 pub mod fines;

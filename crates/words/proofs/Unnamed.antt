@@ -1,6 +1,6 @@
 -- A word that is none of a table's names.
 use Rattle.std.proofs.Common.{◌≡◌, ℕ, ◌<◌, Bool, true, false, ◌&&◌, ltb, List, [], ◌∷◌, None, IsUtf8, Decides, sym, refl, ◌∙◌, subst}
-use Rattle.std.specs.List.{AllByRecursion as All}
+use Rattle.std.specs.List.{AllByRecursion as Each}
 use Rattle.std.proofs.ByRecursion.{IsAscii-from_all}
 use Rattle.std.proofs.lemmas.Slice.Eq.{bytes_eq-Decides}
 use Rattle.std.proofs.lemmas.Bool.{cond-false, and_parts, ltb-true}
@@ -30,7 +30,7 @@ abbrev pub ascii_names : {X : Type 0} → List (List ℕ × X) → Bool
 ascii_names [] = true
 ascii_names (p ∷ ps) = ascii p.0 && ascii_names ps
 
-ascii_all : (cs : List ℕ) → ascii cs ≡ true → All (λ b. b < 128) cs
+ascii_all : (cs : List ℕ) → ascii cs ≡ true → Each (λ b. b < 128) cs
 ascii_all [] h = tt
 ascii_all (c ∷ cs) h =
     let both = and_parts (ltb c 128) (ascii cs) h in (ltb-true c 128 both.0, ascii_all cs both.1)

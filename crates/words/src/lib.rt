@@ -1,4 +1,6 @@
 //! What a text of instructions is made of: its lines, the words of a line, and what each word says.
+#![tactic(auto)]
+
 mod dates;
 pub mod faults;
 pub mod kinds;

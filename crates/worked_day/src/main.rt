@@ -1,4 +1,6 @@
 //! Reads a day's instructions from standard input, and prints the answer to each line.
+#![tactic(auto)]
+
 use desk::console::answer_input;
 use std::io;
 

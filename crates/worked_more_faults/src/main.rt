@@ -1,4 +1,6 @@
 //! A worked day of lines that are at fault.
+#![tactic(auto)]
+
 use desk::console::answer_input;
 use std::io;
 

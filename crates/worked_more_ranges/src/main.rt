@@ -1,4 +1,6 @@
 //! A worked day of numbers at the ends of their ranges.
+#![tactic(auto)]
+
 use desk::console::answer_input;
 use std::io;
 

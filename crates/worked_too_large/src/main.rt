@@ -1,4 +1,6 @@
 //! A text of one byte too many.
+#![tactic(auto)]
+
 use desk::console::answer_input;
 use std::io;
 

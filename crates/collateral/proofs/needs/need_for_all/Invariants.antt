@@ -1,5 +1,5 @@
 use Rattle.std.proofs.Common.{◌≡◌, ◌+◌, ◌*◌, ◌≤◌, drop}
-use Rattle.std.specs.List.{AllByRecursion as All}
+use Rattle.std.specs.List.{AllByRecursion as Each}
 use Rattle.definitions.specs.Cover.{need, need_for}
 use Rattle.definitions.specs.Limits.{most_price, most_quantity}
 use Rattle.definitions.specs.Sound.{ExposureRanged}
@@ -11,4 +11,4 @@ abbrev pub invariant-loop-place : goal.invariant-loop-place
 invariant-loop-place g l =
     (l.sum + total (λ x. need_for (kept_of l.ledger) l.agent (g.T.Exposed.exposes x)) (records (drop l.place-index l.places)) ≡ total (λ x. need_for (kept_of l.ledger) l.agent (g.T.Exposed.exposes x)) (records l.places))
     × (l.sum ≤ l.place-index * need most_quantity most_price)
-    × All (λ x. ExposureRanged (g.T.Exposed.exposes x)) (records (drop l.place-index l.places))
+    × Each (λ x. ExposureRanged (g.T.Exposed.exposes x)) (records (drop l.place-index l.places))
