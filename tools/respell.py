@@ -135,7 +135,7 @@ def main():
         before = set()
         turned(text, comment, lambda name: before.add(name) or name)
         made = {}
-        for name in sorted(before):
+        for name in sorted(before - APART.keys()):
             made.setdefault(name_of(name), []).append(name)
         if path.suffix == ".antt":
             fallen += [f"{path}: {', '.join(names)}" for names in made.values() if len(names) > 1]
