@@ -40,7 +40,7 @@ pub record FirstPair (x : State) (i j : ℕ) : Type 0 where
   pub none_before : (m n : ℕ) → n < j → Pair x m n → ⊥
   pub first_partner : (m : ℕ) → m < i → Pair x m j → ⊥
 
--- There is one first pair at most, and none just if there is no pair.
+-- There is one first pair at most, and none where there is no pair.
 pub record OneFirstPair (x : State) : Type 0 where
   pub one : (i j m n : ℕ) → FirstPair x i j → FirstPair x m n → (i ≡ m) × (j ≡ n)
   pub none : NoPair x → (i j : ℕ) → FirstPair x i j → ⊥

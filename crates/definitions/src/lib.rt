@@ -12,8 +12,8 @@ pub fn law_of_runs_stands()
     ensures { LawOfRuns }
 {}
 
-/// Noon answers how many more agents are suspended, and leaves nobody notified; stop leaves no request of the security, and every
-/// line's registered shares as they were.
+/// Noon answers how many more agents are suspended, and leaves nobody notified; stop leaves no request of the security, and, where
+/// what is left of requests was reserved, every line's registered shares as they were.
 pub fn calls_decide_stands()
     ensures { CallsDecide }
 {}

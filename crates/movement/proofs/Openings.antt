@@ -14,7 +14,7 @@ pub decides_all : (P : Type 0) → P → Decides true P
 decides_all P p = (λ _. p, λ _. refl)
 
 pub decides_none : (P : Type 0) → (P → ⊥) → Decides false P
-decides_none P no-p = (λ e. absurd (let z : ◌≡◌ {A = ℕ} 0 1 = cc in omega arith), λ p. absurd (no-p p))
+decides_none P no_p = (λ e. absurd (let z : ◌≡◌ {A = ℕ} 0 1 = cc in omega arith), λ p. absurd (no_p p))
 
 -- A line outside the counts of o has no shares.
 module _ (o : Holdings) (outside : (a s : ℕ) → (Inside o a s → ⊥) → (o.free a s ≡ 0) × (o.reserved a s ≡ 0)) where

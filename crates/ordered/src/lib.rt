@@ -2,7 +2,7 @@
 //!
 //! Records stand strictly ascending from the first place on. Putting one in is refused exactly where a record equal to it in the order
 //! stands there or, said second, where the memory is full; taking one out exactly where the place is empty. A refusal changes nothing, and a freed place is used again.
-//! All records that pass a test are taken out in one pass.
+//! All records that pass a test are taken out at once.
 #![tactic(auto)]
 
 pub mod list;

@@ -1,7 +1,7 @@
 //! The words of a line, each as one of the kind that is asked for.
 ghost use Rattle.std.specs.Prelude.{◌≡◌, Ok, Err, MatchResult};
-ghost use Rattle.words.specs.Kinds.{verb as the-verb, number as a_number, day as a-day, expiry as an-expiry, sharing as a_sharing, meant};
-ghost use Rattle.words.specs.Operands.{done, field, next as the-next};
+ghost use Rattle.words.specs.Kinds.{verb as the_verb, number as a_number, day as a_day, expiry as an_expiry, sharing as a_sharing, meant};
+ghost use Rattle.words.specs.Operands.{done, field, next as the_next};
 ghost use Rattle.words.specs.Reading.{left, step};
 
 use crate::faults::WordFault;
@@ -13,7 +13,7 @@ use terms::records::Sharing;
 impl<'a> Reader<'a> {
     // The next word with its place.
     fn word(&mut self) -> Result<(Word<'a>, usize), WordFault>
-        ensures value { MatchResult result (λ x. Ok (meant x.0, x.1) ≡ the-next (left self.old)) (λ e. Err e ≡ the-next (left self.old)) }
+        ensures value { MatchResult result (λ x. Ok (meant x.0, x.1) ≡ the_next (left self.old)) (λ e. Err e ≡ the_next (left self.old)) }
         ensures after { left self.new ≡ step (left self.old) }
     {
         let place = self.place();
@@ -25,7 +25,7 @@ impl<'a> Reader<'a> {
 
     /// The next word, which has to be a verb.
     pub fn verb(&mut self) -> Result<Verb, WordFault>
-        ensures value { result ≡ field the-verb (left self.old) }
+        ensures value { result ≡ field the_verb (left self.old) }
         ensures after { left self.new ≡ step (left self.old) }
     {
         let (word, place) = self.word()?;
@@ -43,7 +43,7 @@ impl<'a> Reader<'a> {
 
     /// The next word, which has to be a date: its day.
     pub fn day(&mut self) -> Result<u64, WordFault>
-        ensures value { result ≡ field a-day (left self.old) }
+        ensures value { result ≡ field a_day (left self.old) }
         ensures after { left self.new ≡ step (left self.old) }
     {
         let (word, place) = self.word()?;
@@ -52,7 +52,7 @@ impl<'a> Reader<'a> {
 
     /// The next word, which has to be a date or a dash: the day, if one is given.
     pub fn expiry(&mut self) -> Result<Option<u64>, WordFault>
-        ensures value { result ≡ field an-expiry (left self.old) }
+        ensures value { result ≡ field an_expiry (left self.old) }
         ensures after { left self.new ≡ step (left self.old) }
     {
         let (word, place) = self.word()?;
