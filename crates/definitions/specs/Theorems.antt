@@ -2,6 +2,7 @@
 use Rattle.std.specs.Prelude.{◌≡◌, ℕ, ◌+◌, false}
 use Rattle.std.specs.List.{AllByRecursion as Each}
 use Rattle.register.specs.Holdings.{registered}
+use Rattle.definitions.specs.Cover.{needed, needed_in, short, short_in}
 use Rattle.definitions.specs.Limits.{agent_count}
 use Rattle.definitions.specs.Listing.{in_security, stop_does}
 use Rattle.definitions.specs.Requests.{left_of}
@@ -24,3 +25,8 @@ pub record StopClears (x : State) (s : ℕ) : Type 0 where
 
 abbrev pub CallsDecide : Type 0
 CallsDecide = ((k : Kept) → NoonDecides k) × ((x : State) (s : ℕ) → StopClears x s)
+
+-- What the law asks of a state is what the calls ask of the ledger: an agent needs the same, and is short by both or by neither.
+pub record CoverAgrees (x : State) : Type 0 where
+  pub same_need : (g : ℕ) → needed x g ≡ needed_in x.kept g
+  pub same_short : (g : ℕ) → short x g ≡ short_in x.kept g

@@ -4,7 +4,7 @@
 ghost use Rattle.definitions.specs.Law.{LawOfRuns};
 ghost use Rattle.definitions.specs.Matching.{OneFirstPair};
 ghost use Rattle.definitions.specs.States.{State};
-ghost use Rattle.definitions.specs.Theorems.{CallsDecide};
+ghost use Rattle.definitions.specs.Theorems.{CallsDecide, CoverAgrees};
 ghost use Rattle.definitions.specs.WorkedDays.{WorkedDays, WorkedStates};
 
 /// The law of runs, over the definitions: for any register, any calendar and any list of calls.
@@ -16,6 +16,11 @@ pub fn law_of_runs_stands()
 /// what is left of requests was reserved, every line's registered shares as they were.
 pub fn calls_decide_stands()
     ensures { CallsDecide }
+{}
+
+/// Whether an agent is short is one question, asked of a state and of what a ledger keeps.
+pub fn cover_agrees_stands()
+    ensures { (x : State) → CoverAgrees x }
 {}
 
 /// A state has one first pair at most.

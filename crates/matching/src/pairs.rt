@@ -1,7 +1,7 @@
 //! Whether a lending and a borrowing request match.
-ghost use Rattle.std.specs.Prelude.{◌≡◌, Decides};
-ghost use Rattle.definitions.specs.Matching.{Matches, active as is_active, shares_with};
-ghost use Rattle.definitions.specs.States.{is_suspended, state};
+ghost use Rattle.std.specs.Prelude.{◌≡◌, Decides, not};
+ghost use Rattle.definitions.specs.Matching.{Matches, shares_with};
+ghost use Rattle.definitions.specs.States.{is_suspended, kept_of, state, suspended};
 ghost use Rattle.register.specs.Holdings.{Holdings};
 
 use terms::ledger::Ledger;
@@ -17,10 +17,9 @@ fn is_suspended(standing: Standing) -> bool
     }
 }
 
-/// Whether a request's agent is not suspended, whatever the register holds.
+/// Whether a request's agent is not suspended.
 pub fn is_active(ledger: &Ledger, request: &Request) -> bool
-    ghost held: { Holdings }
-    ensures { result ≡ is_active (state held ledger.now) request.now }
+    ensures { result ≡ not (suspended (kept_of ledger.now) request.now.agent) }
 {
     match ledger.agents.get(request.agent) {
         Some(agent) => !is_suspended(agent.standing),
@@ -41,8 +40,7 @@ fn shares_with(sharing: Sharing, own: u64, other: u64) -> bool
 /// Whether a lending and a borrowing request match: the same security, two accounts, both active, a rate and a duration that suit
 /// both, and whichever is for one partner has no more left than the other; whatever the register holds.
 pub fn is_match(ledger: &Ledger, lending: &Request, borrowing: &Request) -> bool
-    ghost held: { Holdings }
-    ensures { Decides result (Matches (state held ledger.now) lending.now borrowing.now) }
+    ensures { (h : Holdings) → Decides result (Matches (state h ledger.now) lending.now borrowing.now) }
 {
     lending.security == borrowing.security
         && lending.account != borrowing.account

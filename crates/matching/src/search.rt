@@ -19,8 +19,7 @@ pub struct Places {
 
 // Whether a place holds a partner of a borrowing request.
 fn is_partner(ledger: &Ledger, place: &Option<LendingRequest>, borrowing: &BorrowingRequest) -> bool
-    ghost held: { Holdings }
-    ensures { Decides result (Meets (state held ledger.now) place.now borrowing.now) }
+    ensures { (h : Holdings) → Decides result (Meets (state h ledger.now) place.now borrowing.now) }
 {
     match place {
         Some(lending) => is_match(ledger, &lending.request, &borrowing.request),
@@ -31,9 +30,8 @@ fn is_partner(ledger: &Ledger, place: &Option<LendingRequest>, borrowing: &Borro
 /// The first borrowing request that has a partner, with its first partner, in list order: `None` just if no pair matches. What the register
 /// holds makes no difference.
 pub fn first_pair(ledger: &Ledger) -> Option<Places>
-    ghost held: { Holdings }
     requires { Neat ledger.now }
-    ensures { MatchOption result (NoPair (state held ledger.now)) (λ p. FirstPair (state held ledger.now) p.lending p.borrowing) }
+    ensures { (h : Holdings) → MatchOption result (NoPair (state h ledger.now)) (λ p. FirstPair (state h ledger.now) p.lending p.borrowing) }
 {
     'search: {
         for (borrowing, borrower) in ledger.requests.borrowing.iter().enumerate() {
