@@ -91,6 +91,12 @@ APART = {
     "few-accounts": "few_accounts",
     "few-securities": "few_securities",
     "account-fits": "account_fits",
+    # Other names that an import gives, and a variable.
+    "the-verb": "the_verb",
+    "the-next": "the_next",
+    "a-day": "a_day",
+    "an-expiry": "an_expiry",
+    "no-p": "no_p",
 }
 
 
