@@ -1,17 +1,15 @@
 -- A call as a step of a run.
-use Rattle.std.proofs.Common.{◌≡◌, List, Some, None, Ok, Err, Option, Result, sym, refl, ap, ◌∙◌}
+use Rattle.std.proofs.Common.{◌≡◌, List, Some, None, Ok, Err, Option, Result, sym, refl, ap, ◌∙◌, subst}
 use Rattle.register.specs.Holdings.{Holdings}
 use Rattle.terms.specs.declared.calls.Call.{Call}
-use Rattle.terms.specs.declared.calls.Call.TheVariants as call
 use Rattle.terms.specs.declared.calls.Refusal.{Refusal}
 use Rattle.definitions.specs.Calls.{answer, asks, does}
 use Rattle.definitions.specs.Questions.{Question, Step, first_no, left_by, reply_to}
 use Rattle.definitions.specs.Runs.{step}
-use Rattle.definitions.specs.Sound.{Upheld}
-use Rattle.definitions.specs.States.{Kept, State, with_kept}
-use Rattle.definitions.proofs.Keeping.{upright_sound}
-use Rattle.book.specs.Meaning.{Needs, Whole, state_of}
-use Rattle.book.specs.declared.books.Book.{Book}
+use Rattle.definitions.specs.Sound.{Kempt, Upheld}
+use Rattle.definitions.specs.States.{Kept, State, kept_of, state, with_kept}
+use Rattle.definitions.proofs.Keeps.{step_upright}
+use Rattle.terms.specs.declared.ledger.Ledger.{Ledger}
 
 leaves : {X Y : Type 0} (o : Option Refusal) (v : X) (w : Y) (new x : State) → left_by (reply_to o v) new x ≡ left_by (reply_to o w) new x
 leaves None v w new x = refl
@@ -32,20 +30,11 @@ kept_leaves x new (Err e) = refl
 pub kept_step : {X : Type 0} (x : State) (qs : List Question) (v : X) (new k : Kept) (r : Result X Refusal) → Step qs v new x.kept k r → Step qs v (with_kept x new) x (with_kept x k) r
 kept_step x qs v new k r s = record { answers = s.answers; leaves = ap (with_kept x) s.leaves ∙ kept_leaves x new r }
 
--- What is upheld is whole.
-pub upheld_whole : {R C : Type 0} (holdings : R → Holdings) (b : Book R C) → Upheld (holdings b.register) b.ledger → Whole holdings b
-upheld_whole holdings b u =
-    record { stands = record { neat = u.neat; sound = upright_sound (state_of holdings b) u.upright }; upright = u.upright }
-
--- A book that is whole takes any call.
-pub needs_whole : (c : Call) {P : Type 0} → P → Needs c P
-needs_whole (call.Admit s) p = p
-needs_whole (call.Stop s) p = p
-needs_whole (call.Price s c) p = p
-needs_whole (call.Deposit a s q) p = tt
-needs_whole (call.Withdraw a s q) p = tt
-needs_whole (call.Trade a b s q) p = tt
-needs_whole (call.Pledge g kind c) p = p
-needs_whole (call.Unpledge g kind c) p = p
-needs_whole (call.Suspend g) p = p
-needs_whole call.Noon p = p
+-- The call c changes only what the ledger keeps, to `new`: a register that upheld the old ledger upholds the new one.
+pub kept_upheld : {X : Type 0} (h : Holdings) (l m : Ledger) (c : Call) (v : X) (new : Kept) (a : Result X Refusal)
+    → does (state h l) c ≡ with_kept (state h l) new
+    → Step (asks (state h l) c) v new (kept_of l) (kept_of m) a → Upheld h l → Kempt m → Upheld h m
+kept_upheld h l m c v new a same s upheld kempt =
+    let x = state h l in
+    let step = subst (λ (y : State). Step (asks x c) v y x (state h m) a) (sym same) (kept_step x (asks x c) v new (kept_of m) a s) in
+    record { neat = kempt.neat; upright = step_upright x (state h m) c v a upheld.upright step }

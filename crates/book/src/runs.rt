@@ -37,7 +37,7 @@ pub fn run<R: Register, C: Calendar>(
     day: u64,
     calls: &[Call],
 ) -> Result<Finished<R, C>, Unstarted<R, C>>
-    ensures { MatchResult result (λ x. Ran R.holdings R.frame C.business register calendar day calls.now x) (λ u. (u.register ≡ register) × (u.calendar ≡ calendar)) }
+    ensures { MatchResult result (λ x. Ran register calendar day calls.now x) (λ u. (u.register ≡ register) × (u.calendar ≡ calendar)) }
 {
     let Ok(mut journal) = Vec::with_capacity(heap, calls.len()) else {
         return Err(Unstarted { register, calendar });

@@ -8,30 +8,25 @@ use Rattle.definitions.specs.States.{State, opening}
 use Rattle.definitions.proofs.LawProof.{law}
 use Rattle.book.specs.Meaning.{state_of}
 use Rattle.book.specs.declared.runs.Entry.{Entry}
-use Rattle.book.proofs.Answering.{needs_whole}
 use Rattle.book.proofs.Going.{Going, going_start, going_next, going_end}
 use Rattle.book.proofs.runs.run.Goals as goal
 
 pub loop-call-init : goal.loop-call-init
 loop-call-init g c =
-    let x = state_of g.R.Register.holdings c.open-book.result in
+    let x = state_of c.open-book.result in
     let made = c.in-Ok.ensures in (
       subst (Going x c.args.calls.now c.args.calls.now x) (sym made.items) (going_start x c.args.calls.now),
       made.len,
       made.capacity,
-      c.open-book.ensures.whole,
       refl,
       refl,
     )
 
-pub execute-answer-requires-clause-whole : goal.execute-answer-requires-clause-whole
-execute-answer-requires-clause-whole g c = needs_whole _ c.loop-call.invariant.3
-
 pub loop-call-preserved : goal.loop-call-preserved
 loop-call-preserved g c =
-    let x = state_of g.R.Register.holdings c.open-book.result in
-    let y = state_of g.R.Register.holdings c.loop-call.book in
-    let z = state_of g.R.Register.holdings c.execute-answer.new.self in
+    let x = state_of c.open-book.result in
+    let y = state_of c.loop-call.book in
+    let z = state_of c.execute-answer.new.self in
     let calls = c.args.calls.now in
     let i = c.loop-call.call-index in
     let call : Call = get_or calls i (Admit 0) in
@@ -43,9 +38,8 @@ loop-call-preserved g c =
       subst (λ (l : List Entry). Going x calls (drop (i + 1) calls) z l) (sym c.push_reserved.ensures.items) next,
       omega arith,
       omega arith,
-      c.execute-answer.ensures.whole inv.3,
-      c.execute-answer.ensures.calendar ∙ inv.4,
-      c.execute-answer.ensures.frame ∙ inv.5,
+      c.execute-answer.ensures.calendar ∙ inv.3,
+      c.execute-answer.ensures.frame ∙ inv.4,
     )
 
 pub returns : goal.returns
@@ -55,17 +49,15 @@ returns g c =
     let calls = c.args.calls.now in
     let inv = c.loop-call.invariant in
     let start = c.open-book.ensures in
-    let end = going_end (state_of g.R.Register.holdings c.open-book.result) calls (drop c.loop-call.call-index calls)
-    (state_of g.R.Register.holdings c.loop-call.book) (vec_items c.loop-call.journal) (drop_all c.loop-call.call-index calls (omega arith)) inv.0 in
+    let end = going_end (state_of c.open-book.result) calls (drop c.loop-call.call-index calls)
+    (state_of c.loop-call.book) (vec_items c.loop-call.journal) (drop_all c.loop-call.call-index calls (omega arith)) inv.0 in
     let leaves = end.2 ∙ ap (λ (s : State). after s calls) start.state in
     record {
       asked = end.0;
       answered = end.1 ∙ ap (λ (s : State). answers s calls) start.state;
       leaves = leaves;
-      stands = inv.3.stands;
-      whole = inv.3;
-      days = inv.4 ∙ start.calendar;
-      around = inv.5 ∙ ap g.R.Register.frame start.register;
+      days = inv.3 ∙ start.calendar;
+      around = inv.4 ∙ ap g.R.Register.frame start.register;
       law = λ fit.
           subst (Law (g.C.Calendar.business c.args.calendar) (opening h c.args.day) (trace (opening h c.args.day) calls)) (sym leaves)
           (law (g.C.Calendar.business c.args.calendar) h c.args.day calls fit (g.R.Register.outside c.args.register));

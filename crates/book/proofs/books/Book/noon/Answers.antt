@@ -1,22 +1,14 @@
 use Rattle.std.proofs.Common.{refl}
 use Rattle.terms.specs.declared.calls.Call.TheVariants as call
-use Rattle.definitions.specs.Standings.{noon_asks, noon_does, suspensions}
-use Rattle.definitions.specs.States.{state}
-use Rattle.definitions.proofs.Keeping.{upright_sound}
-use Rattle.definitions.proofs.Keeps.{step_upright}
-use Rattle.book.proofs.Answering.{kept_step}
+use Rattle.definitions.specs.Standings.{noon_does, suspensions}
+use Rattle.definitions.specs.States.{kept_of}
+use Rattle.book.proofs.Answering.{kept_upheld}
 use Rattle.book.proofs.books.Book.noon.Goals as goal
 
-pub returns : goal.returns
-returns g c =
-    let x = state (g.R.Register.holdings c.args.self.now.register) c.args.self.now.ledger in
-    let y = state (g.R.Register.holdings c.args.self.now.register) c.noon.new.ledger in
-    let k = x.kept in
-    let step = kept_step x (noon_asks k) (suspensions k) (noon_does k) y.kept c.noon.result c.noon.ensures.step in
-    let upright = step_upright x y call.Noon (suspensions k) c.noon.result c.requires.upright step in
-    record {
-      step = step;
-      whole = record { stands = record { neat = c.noon.ensures.kempt.neat; sound = upright_sound y upright }; upright = upright };
-      calendar = refl;
-      around = refl;
-    }
+pub invariant_of-self : goal.invariant_of-self
+invariant_of-self g c =
+    let h = g.R.Register.holdings c.args.self.now.register in
+    let l = c.args.self.now.ledger in
+    let k = kept_of l in
+    let a = c.args in
+    record { upheld = kept_upheld h l c.noon.new.ledger call.Noon (suspensions k) (noon_does k) c.noon.result refl c.noon.ensures.step a.self.now.upheld c.noon.ensures.kempt }
