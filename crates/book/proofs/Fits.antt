@@ -1,8 +1,14 @@
 -- A register is unfit by one of its securities.
-use Rattle.std.proofs.Common.{◌≡◌, ℕ, zero, suc, ◌+◌, ◌<◌, ◌≤◌, Bool, true, false, ◌&&◌, eqb, leb, [], replicate, sym, refl, ap, ◌∙◌, ⊎_elim, add-one, arith}
+use Rattle.std.proofs.Common.{List, ◌≡◌, ℕ, zero, suc, ◌+◌, ◌<◌, ◌≤◌, Bool, true, false, ◌&&◌, eqb, leb, [], replicate, sym, refl, ap, ◌∙◌, ⊎_elim, add-one, arith}
 use Rattle.std.specs.List.{AllByRecursion as Each}
 use Rattle.std.proofs.lemmas.Bool.{and_left, and_parts, and_right, and_from, cases_eq}
 use Rattle.register.specs.Holdings.{Holdings, Inside, sum_reserved, the_cap, total_of}
+use Rattle.std.specs.Array.{AllOfLen}
+use Rattle.std.proofs.lemmas.List.{ext_get_or, get_or-replicate, length-replicate}
+use Rattle.terms.specs.declared.records.Agent.{Agent}
+use Rattle.terms.specs.declared.records.Standing.{Standing}
+use Rattle.terms.specs.declared.records.Standing.TheVariants.{Clear}
+use Rattle.terms.specs.declared.records.Security.{Security}
 use Rattle.definitions.specs.Limits.{agent_count, kind_count, last_opening, most_accounts, most_securities, within}
 use Rattle.definitions.specs.Sound.{AgentRanged, PriceRanged, Upright}
 use Rattle.definitions.specs.States.{State, all_below, fit, new_agent, no_security, opening}
@@ -24,9 +30,23 @@ unfit h k l e =
     and_right (within 1 most_accounts h.accounts) _
     (and_right (within 1 most_securities h.securities) _ (one_fails h.securities (λ s. eqb (sum_reserved h s) 0 && leb (total_of h s) the_cap) k l e))
 
--- A book that opens, with the question answered by o.
-abbrev pub opened_by : Holdings → ℕ → Bool → State
-opened_by h day o = record { held = h; kept = record { opened = o; today = day; securities = (opening h day).kept.securities; agents = (opening h day).kept.agents; lending = []; borrowing = []; updates = 0; loans = []; references = 0 } }
+-- A book that opens, with the question answered by o, and each security and agent as given.
+abbrev pub opened_by : Holdings → ℕ → Bool → Security → Agent → State
+opened_by h day o s g = record { held = h; kept = record { opened = o; today = day; securities = replicate most_securities s; agents = replicate agent_count g; lending = []; borrowing = []; updates = 0; loans = []; references = 0 } }
+
+pub opened_as : (h : Holdings) (day : ℕ) (o : Bool) (s : Security) (g : Agent) → o ≡ (fit h && leb day last_opening) → s ≡ no_security → g ≡ new_agent → opened_by h day o s g ≡ opening h day
+opened_as h day o s g p q r =
+    ap (λ b. opened_by h day b s g) p ∙ ap (λ x. opened_by h day (fit h && leb day last_opening) x g) q ∙ ap (opened_by h day (fit h && leb day last_opening) no_security) r
+
+abbrev agent_of : Standing → List ℕ → Agent
+agent_of s cents = record { standing = s; cents = cents }
+
+-- An agent is new that is clear, and has no cents of any kind.
+pub is_new : (g : Agent) → g.standing ≡ Clear → AllOfLen (λ c. c ≡ 0) g.cents kind_count → g ≡ new_agent
+is_new g clear none =
+    let cents : g.cents ≡ replicate kind_count 0 = ext_get_or 0 g.cents (replicate kind_count 0) (none.long ∙ sym (length-replicate {A = ℕ} kind_count 0))
+    (λ i l. let m : i < kind_count = omega (arith, l, none.long) in none.at i 0 m ∙ sym (get_or-replicate {A = ℕ} kind_count i 0 0 m)) in
+    ap (λ s. agent_of s g.cents) clear ∙ ap (agent_of Clear) cents
 
 all_same : {X : Type 0} (P : X → Type 0) (x : X) → P x → (n : ℕ) → Each P (replicate n x)
 all_same P x p zero = tt

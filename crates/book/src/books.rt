@@ -14,7 +14,7 @@ use calendar::Calendar;
 use register::Register;
 use terms::calls::{Answer, Call, Refusal};
 use terms::ledger::{Ledger, Loans, Requests};
-use terms::records::{Agent, Security, Standing};
+use terms::records::{Agent, Security};
 
 // The answer of a call that answers nothing but that it is done.
 fn done(res: Result<(), Refusal>) -> Result<Answer, Refusal>
@@ -46,15 +46,8 @@ impl<R: Register, C: Calendar> Book<R, C> {
         let ledger = Ledger {
             opened,
             today: day,
-            securities: [Security {
-                eligible: false,
-                posted: None,
-                price: None,
-            }; 16],
-            agents: [Agent {
-                standing: Standing::Clear,
-                cents: [0; 4],
-            }; 16],
+            securities: [Security::default(); 16],
+            agents: [Agent::default(); 16],
             requests: Requests {
                 lending: [None; 64],
                 borrowing: [None; 64],

@@ -12,10 +12,7 @@ use terms::ledger::Ledger;
 fn points_of(ledger: &Ledger, agent: usize) -> u128
     ensures { result ≡ points_of (agent_of (kept_of ledger.now) agent).cents }
 {
-    match ledger.agents.get(agent) {
-        Some(own) => points(&own.cents),
-        None => 0,
-    }
+    ledger.agents.get(agent).map_or(0, |own| points(&own.cents))
 }
 
 /// Whether an agent has fewer points than it needs.

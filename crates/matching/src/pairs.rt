@@ -7,34 +7,21 @@ ghost use Rattle.register.specs.Holdings.{Holdings};
 use terms::ledger::Ledger;
 use terms::records::{Request, Sharing, Standing};
 
-// Whether a standing is suspended.
-fn is_suspended(standing: Standing) -> bool
-    ensures { result ≡ is_suspended standing }
-{
-    match standing {
-        Standing::Clear | Standing::Notified => false,
-        Standing::Suspended => true,
-    }
-}
-
 /// Whether a request's agent is not suspended.
 pub fn is_active(ledger: &Ledger, request: &Request) -> bool
     ensures { result ≡ not (suspended (kept_of ledger.now) request.now.agent) }
 {
-    match ledger.agents.get(request.agent) {
-        Some(agent) => !is_suspended(agent.standing),
-        None => true,
-    }
+    ledger
+        .agents
+        .get(request.agent)
+        .map_or(true, |agent| agent.standing != Standing::Suspended)
 }
 
 // Whether a request may be matched with one that has so much left: one for a single partner has no more left itself.
 fn shares_with(sharing: Sharing, own: u64, other: u64) -> bool
     ensures { result ≡ shares_with sharing own other }
 {
-    match sharing {
-        Sharing::One => own <= other,
-        Sharing::Many => true,
-    }
+    sharing == Sharing::Many || own <= other
 }
 
 /// Whether a lending and a borrowing request match: the same security, two accounts, both active, a rate and a duration that suit
