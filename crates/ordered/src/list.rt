@@ -17,6 +17,7 @@ pub enum PutRefusal {
 }
 
 /// The records of one kind, strictly ascending from the first place on, in memory that the caller lends.
+// That they ascend is asked by each method and is no invariant of the list, since `over` takes any memory as it is.
 #[derive(Drop)]
 pub struct OrderedList<'a, T> {
     places: &'a mut [Option<T>],

@@ -65,12 +65,10 @@ fn is_equal_at<T: Ranked>(places: &[Option<T>], place: usize, item: &T) -> bool
 
 // How many records come before an item: the place where it belongs.
 fn rank_of<T: Ranked>(places: &[Option<T>], item: &T) -> usize
-    ensures { result ≡ prefix_len (held_before T.precedes item.now) places.now }
+    requires { Ordered T.precedes places.now }
+    ensures { result ≡ rank T.precedes item.now (records places.now) }
 {
-    places
-        .iter()
-        .take_while(|place| holds_before(place, item))
-        .count()
+    places.partition_point(|place| holds_before(place, item))
 }
 
 // Whether a record equal in the order stands there: it would stand where the item belongs.
@@ -83,7 +81,7 @@ fn is_present<T: Ranked>(places: &[Option<T>], at: usize, item: &T) -> bool
 }
 
 // The place where an item can be put in, or why it is refused.
-#[tactic(auto, using(crate::proofs::Reading::filled, crate::proofs::Reading::ranked))]
+#[tactic(auto, using(crate::proofs::Reading::filled))]
 fn place_for<T: Ranked>(places: &[Option<T>], item: &T) -> Result<usize, PutRefusal>
     requires { Ordered T.precedes places.now }
     ensures { MatchResult result (λ at. Fits T.precedes item.now places.now at) (λ e. Err e ≡ put_answer T.precedes item.now places.now) }

@@ -41,6 +41,7 @@ pub(crate) fn release_those<R: Register, F: Fn(&Request) -> bool>(
     ensures holds { (test : Request → Bool) → DecidedBy F.Fn leaves.now test → R.holdings register.new ≡ released_all (R.holdings register.old) (those (λ l. test l.request) (records places.now)) }
     ensures frame { R.frame register.new ≡ R.frame register.old }
 {
+    // Not over `places.iter().map_while(..)`: in a function that is generic over a closure the checker cannot state such a loop.
     for place in places {
         let Some(lending) = place else {
             return;
