@@ -97,7 +97,7 @@ impl<'a, T: Ranked + Drop> OrderedList<'a, T> {
         write_over(self.places, place, item)
     }
 
-    /// Takes out every record that leaves, and answers how many they were; the others stay in their order.
+    /// Takes out every record of which `leaves` says so, and answers how many they were; the others stay in their order.
     pub fn remove_those<F: Fn(&T) -> bool>(&mut self, leaves: F) -> usize
         requires ordered { Ordered T.precedes self.old.places.now }
         requires callable { F.IsAlwaysCallable leaves }

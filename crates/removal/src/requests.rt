@@ -13,8 +13,8 @@ use register::Register;
 use terms::ledger::Ledger;
 use terms::records::Request;
 
-/// Takes out the requests that leave, releases what is left of the lending ones, and answers how many left. Of a lending request it
-/// is asked twice whether it leaves.
+/// Takes out the requests that leave, releases what is left of the lending ones, and answers how many left. `leaves` is asked twice
+/// of a lending request.
 pub fn remove_requests<R: Register, F: Fn(&Request) -> bool>(
     ledger: &mut Ledger,
     register: &mut R,
@@ -31,11 +31,9 @@ pub fn remove_requests<R: Register, F: Fn(&Request) -> bool>(
     ensures frame { R.frame register.new ≡ R.frame register.old }
 {
     release_those(&ledger.requests.lending, register, &leaves);
-    let lending = OrderedList::over(&mut ledger.requests.lending).remove_those(|lending| leaves(
-        &lending.request,
-    ));
-    let borrowing = OrderedList::over(&mut ledger.requests.borrowing).remove_those(
-        |borrowing| leaves(&borrowing.request),
-    );
+    let mut list = OrderedList::over(&mut ledger.requests.lending);
+    let lending = list.remove_those(|lending| leaves(&lending.request));
+    let mut list = OrderedList::over(&mut ledger.requests.borrowing);
+    let borrowing = list.remove_those(|borrowing| leaves(&borrowing.request));
     lending + borrowing
 }

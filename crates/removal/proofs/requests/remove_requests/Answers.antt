@@ -31,22 +31,22 @@ module _ (g : _) (c : After-remove_those-borrowing g) (test : Request → Bool) 
   lending-left : records c.remove_those-lending.new.self.places.now ≡ others (λ l. test l.request) (records c.args.ledger.now.requests.lending)
   lending-left =
       c.remove_those-lending.ensures.removed (λ l. test l.request) (decides _ (λ y b h. let t = told g.F.Fn c.args.leaves test d in search rules))
-      ∙ ap (λ (ps : List (Option LendingRequest)). others (λ l. test l.request) (records ps)) c.over.ensures.same
+      ∙ ap (λ (ps : List (Option LendingRequest)). others (λ l. test l.request) (records ps)) c.over-list.ensures.same
 
   lending-count : c.remove_those-lending.result ≡ length (those (λ l. test l.request) (records c.args.ledger.now.requests.lending))
   lending-count =
       c.remove_those-lending.ensures.count (λ l. test l.request) (decides _ (λ y b h. let t = told g.F.Fn c.args.leaves test d in search rules))
-      ∙ ap (λ (ps : List (Option LendingRequest)). length (those (λ l. test l.request) (records ps))) c.over.ensures.same
+      ∙ ap (λ (ps : List (Option LendingRequest)). length (those (λ l. test l.request) (records ps))) c.over-list.ensures.same
 
   borrowing-left : records c.remove_those-borrowing.new.self.places.now ≡ others (λ b. test b.request) (records c.args.ledger.now.requests.borrowing)
   borrowing-left =
       c.remove_those-borrowing.ensures.removed (λ l. test l.request) (decides _ (λ y b h. let t = told g.F.Fn c.args.leaves test d in search rules))
-      ∙ ap (λ (ps : List (Option BorrowingRequest)). others (λ b. test b.request) (records ps)) c.over-2.ensures.same
+      ∙ ap (λ (ps : List (Option BorrowingRequest)). others (λ b. test b.request) (records ps)) c.over-list-2.ensures.same
 
   borrowing-count : c.remove_those-borrowing.result ≡ length (those (λ b. test b.request) (records c.args.ledger.now.requests.borrowing))
   borrowing-count =
       c.remove_those-borrowing.ensures.count (λ l. test l.request) (decides _ (λ y b h. let t = told g.F.Fn c.args.leaves test d in search rules))
-      ∙ ap (λ (ps : List (Option BorrowingRequest)). length (those (λ b. test b.request) (records ps))) c.over-2.ensures.same
+      ∙ ap (λ (ps : List (Option BorrowingRequest)). length (those (λ b. test b.request) (records ps))) c.over-list-2.ensures.same
 
   left : state (g.R.Register.holdings c.release_those.new.register) (with_lists c.args.ledger.now c.remove_those-lending.new.self.places.now c.remove_those-borrowing.new.self.places.now) ≡ taken_out test (state (g.R.Register.holdings c.args.register.now) c.args.ledger.now)
   left =
@@ -77,8 +77,8 @@ returns g c =
       leaves = left g w;
       count = λ test d. omega (arith, lending-count g w test d, borrowing-count g w test d);
       neat = record {
-        lending = record { ordered = c.remove_those-lending.ensures.stays; long = c.remove_those-lending.ensures.long ∙ ap length c.over.ensures.same ∙ c.requires.neat.lending.long };
-        borrowing = record { ordered = c.remove_those-borrowing.ensures.stays; long = c.remove_those-borrowing.ensures.long ∙ ap length c.over-2.ensures.same ∙ c.requires.neat.borrowing.long };
+        lending = record { ordered = c.remove_those-lending.ensures.stays; long = c.remove_those-lending.ensures.long ∙ ap length c.over-list.ensures.same ∙ c.requires.neat.lending.long };
+        borrowing = record { ordered = c.remove_those-borrowing.ensures.stays; long = c.remove_those-borrowing.ensures.long ∙ ap length c.over-list-2.ensures.same ∙ c.requires.neat.borrowing.long };
         loans = c.requires.neat.loans;
       };
       borne = subst Borne (sym (left g w p.0 p.1)) (borne_taken (state (g.R.Register.holdings c.args.register.now) l) c.requires.borne p.0);
