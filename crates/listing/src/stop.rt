@@ -6,7 +6,6 @@ ghost use Rattle.definitions.specs.Sound.{Upheld};
 ghost use Rattle.definitions.specs.States.{state};
 
 use register::Register;
-use removal::leaving::Leaving;
 use removal::requests::remove_requests;
 use terms::calls::Refusal;
 use terms::ledger::Ledger;
@@ -33,6 +32,6 @@ pub fn stop<R: Register>(
         return Err(Refusal::WrongCondition);
     }
     ledger.securities[security].eligible = false;
-    remove_requests(ledger, register, Leaving::Stopped { security });
+    remove_requests(ledger, register, |request| request.security == security);
     Ok(())
 }

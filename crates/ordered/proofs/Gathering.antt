@@ -1,8 +1,9 @@
 -- What the places hold once those that pass a test are taken out.
-use Rattle.std.proofs.Common.{◌≡◌, ℕ, ◌+◌, ◌-◌, ◌<◌, ◌≤◌, Bool, true, false, cond, not, List, [], ◌∷◌, ◌++◌, length, get_or, take, Some, None, filter, Option, sym, refl, ap, ◌∙◌, arith}
+use Rattle.std.proofs.Common.{◌≡◌, ℕ, ◌+◌, ◌-◌, ◌<◌, ◌≤◌, Bool, true, false, cond, not, List, [], ◌∷◌, ◌++◌, length, get_or, take, Some, None, filter, Option, sym, refl, ap, ◌∙◌, arith, Bor, MatchOption}
 use borrow.Rule.Slice.PartMut.{put_mid}
 use Rattle.std.proofs.lemmas.List.Filters.{FiltersInPlace, FiltersInPlace-more_no, FiltersInPlace-more_swap}
 use Rattle.std.specs.List.{SwappedAt}
+use Rattle.std.specs.Option.{option_copied}
 use Rattle.std.proofs.lemmas.List.{length-take-le}
 use Rattle.std.proofs.lemmas.Bool.{false≢true}
 use Rattle.ordered.specs.Places.{records, packed, vacant, ascending, Ordered}
@@ -29,6 +30,11 @@ module _ {X : Type 0} where
   emptied [] p e = refl
   emptied (None ∷ ps) p e = p
   emptied (Some x ∷ ps) p e = absurd (let z : ◌≡◌ {A = ℕ} 0 1 = cc in omega arith)
+
+module _ {X : Type 0} where
+  pub stays_by : (o : Option (Bor X)) (p : Option X) (r : Bool) (test : X → Bool) → option_copied o ≡ p → (Q : Bor X → Type 0) → MatchOption o (r ≡ false) Q → ((y : Bor X) → Q y → r ≡ not (test y.now)) → r ≡ staying test p
+  stays_by None p r test e Q h f = h ∙ ap (staying test) e
+  stays_by (Some y) p r test e Q h f = f y h ∙ ap (staying test) e
 
 module _ {X : Type 0} (test : X → Bool) where
   vacant_kept : (ps : List (Option X)) → vacant ps ≡ true → filter (staying test) ps ≡ []

@@ -1,9 +1,10 @@
 pub mod Ascending
+pub mod Deciding
 mod Gathering
 mod Insertion
 pub mod Moves
 pub mod Selections
 pub mod Standing
 mod Steps
-mod Turns
+pub mod Reading
 pub mod Walking

@@ -1,14 +1,13 @@
 //! The ordered list.
-ghost use Rattle.std.specs.Prelude.{◌≡◌, [], length};
+ghost use Rattle.std.specs.Prelude.{Bool, ◌≡◌, [], length};
 ghost use Rattle.ordered.specs.Answers.{Put, Replaced, Taken};
 ghost use Rattle.ordered.specs.Places.{full, records, Ordered};
-ghost use Rattle.ordered.specs.Selected.{others, those};
+ghost use Rattle.ordered.specs.Selected.{others, those, DecidedBy};
 ghost use Rattle.std.specs.Option.{option_map};
 ghost use Rattle.std.specs.List.{slice_get};
 
 use crate::order::Ranked;
 use crate::places::{clear, count, put_in, record_at, take_out, write_over};
-use crate::selection::Test;
 
 /// Why a record is not put in: one equal to it in the order stands there, or no place is empty.
 #[derive(Clone, Copy)]
@@ -18,6 +17,7 @@ pub enum PutRefusal {
 }
 
 /// The records of one kind, strictly ascending from the first place on, in memory that the caller lends.
+// That they ascend is asked by each method and is no invariant of the list, since `over` takes any memory as it is.
 #[derive(Drop)]
 pub struct OrderedList<'a, T> {
     places: &'a mut [Option<T>],
@@ -44,6 +44,7 @@ impl<'a, T: Ranked + Drop> OrderedList<'a, T> {
     }
 
     /// How many records there are.
+    #[tactic(auto, using(crate::proofs::Reading::counted))]
     pub fn len(&self) -> usize
         ensures { result ≡ length (records self.now.places.now) }
     {
@@ -51,6 +52,7 @@ impl<'a, T: Ranked + Drop> OrderedList<'a, T> {
     }
 
     /// Whether no place is empty.
+    #[tactic(auto, using(crate::proofs::Reading::filled))]
     pub fn is_full(&self) -> bool
         ensures { result ≡ full self.now.places.now }
     {
@@ -95,15 +97,17 @@ impl<'a, T: Ranked + Drop> OrderedList<'a, T> {
         write_over(self.places, place, item)
     }
 
-    /// Takes out every record that passes a test, and answers how many they were; the others stay in their order.
-    pub fn remove_those<P: Test<T>>(&mut self, test: &P) -> usize
-        requires { Ordered T.precedes self.old.places.now }
-        ensures removed { records self.new.places.now ≡ others (P.passes test.now) (records self.old.places.now) }
-        ensures count { result ≡ length (those (P.passes test.now) (records self.old.places.now)) }
+    /// Takes out every record of which `leaves` says so, and answers how many they were; the others stay in their order.
+    pub fn remove_those<F: Fn(&T) -> bool>(&mut self, leaves: F) -> usize
+        requires ordered { Ordered T.precedes self.old.places.now }
+        requires callable { F.IsAlwaysCallable leaves }
+        requires decided { (test : T → Bool) × DecidedBy F.Fn leaves test }
+        ensures removed { (test : T → Bool) → DecidedBy F.Fn leaves test → records self.new.places.now ≡ others test (records self.old.places.now) }
+        ensures count { (test : T → Bool) → DecidedBy F.Fn leaves test → result ≡ length (those test (records self.old.places.now)) }
         ensures stays { Ordered T.precedes self.new.places.now }
         ensures long { length self.new.places.now ≡ length self.old.places.now }
         ensures lent { self.new.places.ghost_name ≡ self.old.places.ghost_name }
     {
-        crate::places::remove_those(self.places, test)
+        crate::places::remove_those(self.places, leaves)
     }
 }

@@ -2,6 +2,7 @@
 ghost use Rattle.std.specs.Prelude.{◌≡◌, Bool, true, false};
 
 /// A kind of record whose order is total: of any two, one comes before the other, or they are equal in the order.
+// It is not `Ord`, by whose laws records that are equal in the order would be equal.
 pub trait Ranked {
     // Whether the first comes before the second.
     ghost precedes: { Self → Self → Bool };

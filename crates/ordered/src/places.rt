@@ -1,49 +1,36 @@
 //! The work on the places of memory, each of which holds a record or none.
-ghost use Rattle.std.specs.Prelude.{◌≡◌, ◌<◌, ◌≤◌, [], length, take, Some, None, Ok, Err, filter, MatchResult, slice_index_or, slice_set};
+ghost use Rattle.std.specs.Prelude.{Bool, ◌≡◌, ◌<◌, ◌≤◌, [], length, take, Some, None, Ok, Err, filter, MatchResult, slice_index_or, slice_set};
 ghost use Rattle.ordered.specs.Answers.{equal_to, put_answer, Put, Replaced, Taken};
 ghost use Rattle.ordered.specs.Places.{alike, full, present, records, Ordered};
 ghost use Rattle.ordered.specs.Ranks.{held_before, rank, Fits};
-ghost use Rattle.ordered.specs.Selected.{others, those};
+ghost use Rattle.ordered.specs.Selected.{others, those, DecidedBy};
 ghost use Rattle.ordered.specs.Staying.{staying};
-ghost use Rattle.std.specs.Option.{option_map};
-ghost use Rattle.std.specs.List.{slice_get};
+ghost use Rattle.std.specs.Option.{is_some, option_map};
+ghost use Rattle.std.specs.List.{list_all, prefix_len, slice_get};
 
 use crate::list::PutRefusal;
 use crate::order::Ranked;
-use crate::selection::Test;
 
 // Empties every place.
 pub(crate) fn clear<T: Ranked + Drop>(places: &mut [Option<T>])
     ensures none { records places.new ≡ [] }
     ensures stays { Ordered T.precedes places.new }
 {
-    for place in places.iter_mut() {
-        *place = None;
-    }
+    places.fill_with(|| None);
 }
 
 // How many records stand before the first empty place.
 pub(crate) fn count<T>(places: &[Option<T>]) -> usize
-    ensures { result ≡ length (records places.now) }
+    ensures { result ≡ prefix_len is_some places.now }
 {
-    for (at, place) in places.iter().enumerate() {
-        if place.is_none() {
-            return at;
-        }
-    }
-    places.len()
+    places.iter().take_while(|place| place.is_some()).count()
 }
 
 // Whether no place is empty.
 pub(crate) fn is_full<T>(places: &[Option<T>]) -> bool
-    ensures { result ≡ full places.now }
+    ensures { result ≡ list_all is_some places.now }
 {
-    for place in places {
-        if place.is_none() {
-            return false;
-        }
-    }
-    true
+    places.iter().all(|place| place.is_some())
 }
 
 // The record at a place.
@@ -51,11 +38,7 @@ pub(crate) fn record_at<T: Ranked>(places: &[Option<T>], place: usize) -> Option
     requires { Ordered T.precedes places.now }
     ensures { option_map (λ x. x.now) result ≡ slice_get (records places.now) place }
 {
-    if place < places.len() {
-        places[place].as_ref()
-    } else {
-        None
-    }
+    places.get(place)?.as_ref()
 }
 
 // Whether two records are equal in the order.
@@ -69,10 +52,7 @@ fn is_alike<T: Ranked>(a: &T, b: &T) -> bool
 fn holds_before<T: Ranked>(place: &Option<T>, item: &T) -> bool
     ensures { result ≡ held_before T.precedes item.now place.now }
 {
-    match place {
-        Some(held) => held.before(item),
-        None => false,
-    }
+    place.as_ref().is_some_and(|held| held.before(item))
 }
 
 // Whether the record at a place is equal in the order to another.
@@ -80,22 +60,15 @@ fn is_equal_at<T: Ranked>(places: &[Option<T>], place: usize, item: &T) -> bool
     requires { Ordered T.precedes places.now }
     ensures { result ≡ equal_to T.precedes item.now (slice_get (records places.now) place) }
 {
-    match record_at(places, place) {
-        Some(held) => is_alike(item, held),
-        None => false,
-    }
+    record_at(places, place).is_some_and(|held| is_alike(item, held))
 }
 
 // How many records come before an item: the place where it belongs.
 fn rank_of<T: Ranked>(places: &[Option<T>], item: &T) -> usize
+    requires { Ordered T.precedes places.now }
     ensures { result ≡ rank T.precedes item.now (records places.now) }
 {
-    for (at, place) in places.iter().enumerate() {
-        if !holds_before(place, item) {
-            return at;
-        }
-    }
-    places.len()
+    places.partition_point(|place| holds_before(place, item))
 }
 
 // Whether a record equal in the order stands there: it would stand where the item belongs.
@@ -108,6 +81,7 @@ fn is_present<T: Ranked>(places: &[Option<T>], at: usize, item: &T) -> bool
 }
 
 // The place where an item can be put in, or why it is refused.
+#[tactic(auto, using(crate::proofs::Reading::filled))]
 fn place_for<T: Ranked>(places: &[Option<T>], item: &T) -> Result<usize, PutRefusal>
     requires { Ordered T.precedes places.now }
     ensures { MatchResult result (λ at. Fits T.precedes item.now places.now at) (λ e. Err e ≡ put_answer T.precedes item.now places.now) }
@@ -191,24 +165,25 @@ pub(crate) fn write_over<T: Ranked + Drop>(
     write_at(places, place, item)
 }
 
-// Whether a place holds a record that does not pass a test.
-fn is_staying<T, P: Test<T>>(place: &Option<T>, test: &P) -> bool
-    ensures { result ≡ staying (P.passes test.now) place.now }
+// Whether a place holds a record that stays.
+fn is_staying<T, F: Fn(&T) -> bool>(place: &Option<T>, leaves: &F) -> bool
+    requires { F.IsAlwaysCallable leaves.now }
+    ensures { (test : T → Bool) → DecidedBy F.Fn leaves.now test → result ≡ staying test place.now }
 {
-    match place {
-        Some(held) => !test.admits(held),
-        None => false,
-    }
+    place.as_ref().is_some_and(|held| !leaves(held))
 }
 
-// Moves the records that do not pass a test to the front, in their order, and answers how many they are.
-fn gather<T: Drop, P: Test<T>>(places: &mut [Option<T>], test: &P) -> usize
-    ensures front { take result places.new ≡ filter (staying (P.passes test.now)) places.old }
+// Moves the records that stay to the front, in their order, and answers how many they are.
+fn gather<T: Drop, F: Fn(&T) -> bool>(places: &mut [Option<T>], leaves: F) -> usize
+    requires callable { F.IsAlwaysCallable leaves }
+    requires decided { (test : T → Bool) × DecidedBy F.Fn leaves test }
+    ensures front { (test : T → Bool) → DecidedBy F.Fn leaves test → take result places.new ≡ filter (staying test) places.old }
     ensures within { result ≤ length places.new }
 {
+    // No method of a slice drops records and keeps the order of the others, so the place to move to is counted here.
     let mut to = 0;
     for at in 0..places.len() {
-        if is_staying(&places[at], test) {
+        if is_staying(&places[at], &leaves) {
             places.swap(to, at);
             to += 1;
         }
@@ -216,18 +191,20 @@ fn gather<T: Drop, P: Test<T>>(places: &mut [Option<T>], test: &P) -> usize
     to
 }
 
-// Takes out every record that passes a test, and answers how many they were.
-pub(crate) fn remove_those<T: Ranked + Drop, P: Test<T>>(
+// Takes out every record that leaves, and answers how many they were.
+pub(crate) fn remove_those<T: Ranked + Drop, F: Fn(&T) -> bool>(
     places: &mut [Option<T>],
-    test: &P,
+    leaves: F,
 ) -> usize
-    requires { Ordered T.precedes places.old }
-    ensures removed { records places.new ≡ others (P.passes test.now) (records places.old) }
-    ensures count { result ≡ length (those (P.passes test.now) (records places.old)) }
+    requires ordered { Ordered T.precedes places.old }
+    requires callable { F.IsAlwaysCallable leaves }
+    requires decided { (test : T → Bool) × DecidedBy F.Fn leaves test }
+    ensures removed { (test : T → Bool) → DecidedBy F.Fn leaves test → records places.new ≡ others test (records places.old) }
+    ensures count { (test : T → Bool) → DecidedBy F.Fn leaves test → result ≡ length (those test (records places.old)) }
     ensures stays { Ordered T.precedes places.new }
 {
     let before = count(places);
-    let after = gather(places, test);
+    let after = gather(places, leaves);
     clear(&mut places[after..]);
     before - after
 }

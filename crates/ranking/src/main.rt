@@ -22,10 +22,8 @@ fn show<T: Ranked + Display + Drop>(rt: &HostRuntime, list: &OrderedList<T>) -> 
     let count = list.len();
     let full = if list.is_full() { ", full" } else { "" };
     print!(rt; "    {count}{full}:")?;
-    for place in 0..count {
-        if let Some(held) = list.get(place) {
-            print!(rt; " [{held}]")?;
-        }
+    for held in (0..count).map_while(|place| list.get(place)) {
+        print!(rt; " [{held}]")?;
     }
     println!(rt; "")
 }

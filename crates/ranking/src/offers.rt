@@ -24,7 +24,7 @@ impl Ranked for Offer {
     ghost chain = { Prim.search rules };
 
     fn before(&self, other: &Self) -> bool {
-        self.rate < other.rate || (self.rate == other.rate && self.number < other.number)
+        (self.rate, self.number) < (other.rate, other.number)
     }
 }
 

@@ -10,8 +10,6 @@ use Rattle.terms.specs.declared.records.LendingRequest.{LendingRequest}
 use Rattle.definitions.specs.Requests.{left_on, left_of, released_all}
 use Rattle.definitions.proofs.Lines.{put_less, put_more}
 use Rattle.removal.specs.Held.{Lent}
-use Rattle.removal.specs.Leaves.{lending_leaves}
-use Rattle.removal.specs.declared.leaving.Leaving.{Leaving}
 
 -- Nothing is released for no request.
 none_released : (h : Holdings) → released_all h [] ≡ h
@@ -58,29 +56,29 @@ onward_next true h l ls = one_released h l ls
 onward_next false h l ls = refl
 
 -- The loop at the place i: what goes on from here completes what began.
-pub record Releasing (v : Leaving) (h₀ h : Holdings) (ps : List (Option LendingRequest)) (i : ℕ) : Type 0 where
-  pub onward : released_all h (those (lending_leaves v) (records (drop i ps))) ≡ released_all h₀ (those (lending_leaves v) (records ps))
+pub record Releasing (test : LendingRequest → Bool) (h₀ h : Holdings) (ps : List (Option LendingRequest)) (i : ℕ) : Type 0 where
+  pub onward : released_all h (those test (records (drop i ps))) ≡ released_all h₀ (those test (records ps))
   pub lent : Lent h (records (drop i ps))
 
-module _ (v : Leaving) (h₀ h : Holdings) (ps : List (Option LendingRequest)) (i : ℕ) (k : Releasing v h₀ h ps i) where
-  end : records (drop i ps) ≡ [] → h ≡ released_all h₀ (those (lending_leaves v) (records ps))
-  end e = sym (none_released h) ∙ ap (λ ls. released_all h (those (lending_leaves v) ls)) (sym e) ∙ k.onward
+module _ (test : LendingRequest → Bool) (h₀ h : Holdings) (ps : List (Option LendingRequest)) (i : ℕ) (k : Releasing test h₀ h ps i) where
+  end : records (drop i ps) ≡ [] → h ≡ released_all h₀ (those test (records ps))
+  end e = sym (none_released h) ∙ ap (λ ls. released_all h (those test ls)) (sym e) ∙ k.onward
 
-  pub releasing_all : length ps ≤ i → h ≡ released_all h₀ (those (lending_leaves v) (records ps))
+  pub releasing_all : length ps ≤ i → h ≡ released_all h₀ (those test (records ps))
   releasing_all le = end (records_all ps i le)
 
-  pub releasing_stop : i < length ps → get_or ps i None ≡ None → h ≡ released_all h₀ (those (lending_leaves v) (records ps))
+  pub releasing_stop : i < length ps → get_or ps i None ≡ None → h ≡ released_all h₀ (those test (records ps))
   releasing_stop lt e = end (records_end ps i None lt e)
 
   pub next_releasable : (l : LendingRequest) → i < length ps → get_or ps i None ≡ Some l → Releasable h l.request.account l.request.security l.request.left
   next_releasable l lt e = releasable h l (records (drop (i + 1) ps)) (subst (Lent h) (records_more ps i None lt l e) k.lent)
 
-  pub releasing_more : (l : LendingRequest) (m : Holdings) → i < length ps → get_or ps i None ≡ Some l → m ≡ cond (lending_leaves v l) (freed h l) h → Releasing v h₀ m ps (i + 1)
+  pub releasing_more : (l : LendingRequest) (m : Holdings) → i < length ps → get_or ps i None ≡ Some l → m ≡ cond (test l) (freed h l) h → Releasing test h₀ m ps (i + 1)
   releasing_more l m lt e f = record {
     onward =
-        ap (λ (n : Holdings). released_all n (those (lending_leaves v) (records (drop (i + 1) ps)))) f
-        ∙ onward_next (lending_leaves v l) h l (those (lending_leaves v) (records (drop (i + 1) ps)))
-        ∙ ap (λ ls. released_all h (those (lending_leaves v) ls)) (sym (records_more ps i None lt l e)) ∙ k.onward;
+        ap (λ (n : Holdings). released_all n (those test (records (drop (i + 1) ps)))) f
+        ∙ onward_next (test l) h l (those test (records (drop (i + 1) ps)))
+        ∙ ap (λ ls. released_all h (those test ls)) (sym (records_more ps i None lt l e)) ∙ k.onward;
     lent = subst (λ (n : Holdings). Lent n (records (drop (i + 1) ps))) (sym f)
-        (lent_next (lending_leaves v l) h l (records (drop (i + 1) ps)) (subst (Lent h) (records_more ps i None lt l e) k.lent));
+        (lent_next (test l) h l (records (drop (i + 1) ps)) (subst (Lent h) (records_more ps i None lt l e) k.lent));
   }

@@ -12,8 +12,7 @@ use Rattle.definitions.specs.Requests.{released_all, taken_out}
 use Rattle.definitions.specs.Sound.{Borne}
 use Rattle.definitions.specs.States.{state}
 use Rattle.removal.specs.Held.{Lent}
-use Rattle.removal.specs.Leaves.{borrowing_leaves, leaves, lending_leaves}
-use Rattle.removal.specs.declared.leaving.Leaving.{Leaving}
+use Rattle.terms.specs.declared.records.Request.{Request}
 
 pub lent_from_lem : (h : Holdings) (l : Ledger) → Borne (state h l) → Lent h (records l.requests.lending)
 lent_from_lem h l b = record { lines = b.lines; enough = λ a s. omega (arith, b.reserved a s); capped = b.capped }
@@ -23,12 +22,12 @@ abbrev pub with_lists : Ledger → List (Option LendingRequest) → List (Option
 with_lists l ls bs =
     record { opened = l.opened; today = l.today; securities = l.securities; agents = l.agents; requests = record { lending = ls; borrowing = bs; updates = l.requests.updates }; loans = l.loans }
 
-pub removed_state : (v : Leaving) (h m : Holdings) (l : Ledger) (ls : List (Option LendingRequest)) (bs : List (Option BorrowingRequest))
-    → m ≡ released_all h (those (lending_leaves v) (records l.requests.lending))
-    → records ls ≡ others (lending_leaves v) (records l.requests.lending)
-    → records bs ≡ others (borrowing_leaves v) (records l.requests.borrowing)
-    → state m (with_lists l ls bs) ≡ taken_out (leaves v) (state h l)
-removed_state v h m l ls bs p q r =
+pub removed_state : (test : Request → Bool) (h m : Holdings) (l : Ledger) (ls : List (Option LendingRequest)) (bs : List (Option BorrowingRequest))
+    → m ≡ released_all h (those (λ l. test l.request) (records l.requests.lending))
+    → records ls ≡ others (λ l. test l.request) (records l.requests.lending)
+    → records bs ≡ others (λ b. test b.request) (records l.requests.borrowing)
+    → state m (with_lists l ls bs) ≡ taken_out test (state h l)
+removed_state test h m l ls bs p q r =
     λ i. record { held = p i; kept = record { opened = l.opened; today = l.today; securities = l.securities; agents = l.agents; lending = q i; borrowing = r i; updates = l.requests.updates; loans = records l.loans.standing; references = l.loans.references } }
 
 pub few_leave : {X : Type 0} (test : X → Bool) (ps : List (Option X)) → length (those test (records ps)) ≤ length ps

@@ -1,6 +1,5 @@
 //! Requests that leave their lists: they are taken out, and what is left of the lending ones is released.
 #![tactic(auto)]
 
-pub mod leaving;
 mod release;
 pub mod requests;

@@ -4,6 +4,7 @@ ghost use Rattle.std.proofs.Common.{rules};
 
 use crate::records::{BorrowingRequest, LendingRequest, Loan};
 use ordered::order::Ranked;
+use std::cmp::Reverse;
 
 /// Lowest rate first, then lowest update number.
 impl Ranked for LendingRequest {
@@ -15,7 +16,7 @@ impl Ranked for LendingRequest {
 
     fn before(&self, other: &Self) -> bool {
         let (x, y) = (self.request, other.request);
-        x.rate < y.rate || (x.rate == y.rate && x.update < y.update)
+        (x.rate, x.update) < (y.rate, y.update)
     }
 }
 
@@ -29,7 +30,7 @@ impl Ranked for BorrowingRequest {
 
     fn before(&self, other: &Self) -> bool {
         let (x, y) = (self.request, other.request);
-        y.rate < x.rate || (x.rate == y.rate && x.update < y.update)
+        (Reverse(x.rate), x.update) < (Reverse(y.rate), y.update)
     }
 }
 
@@ -42,6 +43,6 @@ impl Ranked for Loan {
     ghost chain = { Prim.search rules };
 
     fn before(&self, other: &Self) -> bool {
-        self.due < other.due || (self.due == other.due && self.reference < other.reference)
+        (self.due, self.reference) < (other.due, other.reference)
     }
 }

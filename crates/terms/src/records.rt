@@ -100,6 +100,7 @@ pub struct Request {
 }
 
 /// A request to lend.
+// Lending and borrowing requests are two types, since their lists have two orders.
 #[derive(Clone, Copy)]
 pub struct LendingRequest {
     pub request: Request,

@@ -1,21 +1,15 @@
-use Rattle.std.proofs.Common.{ap, arith}
-use Rattle.std.proofs.lemmas.List.{drop_all}
-use Rattle.ordered.specs.Places.{records}
-use Rattle.ordered.specs.Ranks.{rank}
-use Rattle.ordered.proofs.Turns.{rank_more, rank_ends}
+use Rattle.std.proofs.Common.{rules}
+use Rattle.std.proofs.lemmas.List.Sorted.{IsPartitionPoint-from_clause}
+use Rattle.ordered.specs.Ranks.{held_before}
+use Rattle.ordered.proofs.Reading.{partitioned, rank_is}
 use Rattle.ordered.proofs.places.rank_of.Goals as goal
-
-pub returns-then-not-holds_before : goal.returns-then-not-holds_before
-returns-then-not-holds_before g c =
-    let e = rank_ends c.args.places.now c.loop-at.at c.index-places-at.result c.loop-at-test.true c.index-places-at.is g.T.Ranked.precedes c.args.item.now c.if-not-holds_before.ensures in
-    omega (arith, c.loop-at.invariant)
-
-pub loop-at-preserved : goal.loop-at-preserved
-loop-at-preserved g c =
-    let e = rank_more c.args.places.now c.loop-at.at c.index-places-at.result c.loop-at-test.true c.index-places-at.is g.T.Ranked.precedes c.args.item.now c.if-not-holds_before.ensures in
-    omega (arith, c.loop-at.invariant)
 
 pub returns : goal.returns
 returns g c =
-    let e = ap (λ l. rank g.T.Ranked.precedes c.args.item.now (records l)) (drop_all c.loop-at.at c.args.places.now c.loop-at-test.false) in
-    omega (arith, c.loop-at.invariant)
+    let lt = g.T.Ranked.precedes in
+    let x = c.args.item.now in
+    let ps = c.args.places.now in
+    rank_is lt x ps c.partition_point.result c.partition_point.ensures.bound
+    (IsPartitionPoint-from_clause (held_before lt x) ps c.partition_point.result c.partition_point.ensures.partitioned
+    (partitioned lt (record { asymmetric = g.met.T.Ranked.asymmetric; chain = g.met.T.Ranked.chain }) x ps c.requires.0 c.requires.1)
+    (λ a r f k. search rules))
