@@ -1,3 +1,5 @@
 pub mod Conversions
+mod Digits
 mod Months
+mod Search
 pub mod Weeks
