@@ -24,7 +24,7 @@ pub fn day_of(date: Date) -> Option<u64>
     ensures { result ≡ day_of date }
 {
     let Date { year, month, day } = date;
-    if year < FIRST_YEAR || year > LAST_YEAR || month < 1 || month > 12 || day < 1 {
+    if !(FIRST_YEAR..=LAST_YEAR).contains(&year) || !(1..=12).contains(&month) || day < 1 {
         return None;
     }
     let month = Month {
