@@ -1,4 +1,3 @@
 pub mod Counts
-mod Bits
-mod Listing
+mod Spans
 mod Weeks
