@@ -3,7 +3,7 @@ use Rattle.std.proofs.lemmas.Iterator.Adapters.{YieldsList-from_skip}
 use Rattle.std.proofs.lemmas.Iterator.Consumers.{YieldsList-at, YieldsList-from_filter, nth_from_yields_List}
 use Rattle.days.specs.Dates.{last_day}
 use Rattle.calendar.proofs.Counts.{tenth_lem}
-use Rattle.calendar.proofs.Spans.{YieldsList-from_span}
+use Rattle.days.proofs.Spans.{YieldsList-from_span}
 use Rattle.calendar.proofs.notice.tenth_business_day.Goals as goal
 
 pub returns : goal.returns
