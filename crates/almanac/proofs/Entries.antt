@@ -1,6 +1,7 @@
 -- The entry of a day, from what the three conversions answer.
-use Rattle.std.proofs.Common.{◌≡◌, ℕ, ◌<◌, ◌≤◌, Some, None, Option, sym, ap, ◌∙◌, ⊎_elim, arith}
+use Rattle.std.proofs.Common.{◌≡◌, ℕ, ◌<◌, ◌≤◌, Some, None, Option, sym, ap, ◌∙◌, ⊎_elim}
 use Rattle.std.proofs.lemmas.Bool.{cases_lt, cond-true, cond-false, le-leb, lt-leb}
+use Rattle.std.proofs.lemmas.Option.{none-some}
 use Rattle.days.specs.Dates.{last_day, date_at, date_of, day_of}
 use Rattle.days.specs.Weekdays.{weekday_at, weekday_of}
 use Rattle.days.specs.declared.dates.Date.{Date}
@@ -9,21 +10,12 @@ use Rattle.days.proofs.Conversions.{date_some, date_none, round_trips}
 use Rattle.days.proofs.Weeks.{weekday_at_lem}
 use Rattle.almanac.specs.Almanac.{entry_at, entry_of}
 
-entry_past : (d : ℕ) → last_day < d → None ≡ entry_of d
-entry_past d h = sym (cond-false _ (Some (entry_at d)) None (lt-leb d last_day h))
-
-pub no_date : (d : ℕ) → None ≡ date_of d → None ≡ entry_of d
-no_date d n =
+-- A day of which a conversion answers nothing, that answers something up to the last, is past the last.
+pub no_entry : {A : Type 0} (d : ℕ) (o : Option A) (x : A) → None ≡ o → (d ≤ last_day → o ≡ Some x) → None ≡ entry_of d
+no_entry d o x n some =
     ⊎_elim
-    (λ (h : last_day < d). entry_past d h)
-    (λ (h : d ≤ last_day). let e = date_some d h in let z : ◌≡◌ {A = ℕ} 0 1 = cc in absurd (omega arith))
-    (cases_lt last_day d)
-
-pub no_weekday : (d : ℕ) → None ≡ weekday_of d → None ≡ entry_of d
-no_weekday d n =
-    ⊎_elim
-    (λ (h : last_day < d). entry_past d h)
-    (λ (h : d ≤ last_day). let e = weekday_at_lem d h in let z : ◌≡◌ {A = ℕ} 0 1 = cc in absurd (omega arith))
+    (λ (h : last_day < d). sym (cond-false _ (Some (entry_at d)) None (lt-leb d last_day h)))
+    (λ (h : d ≤ last_day). absurd (none-some x (n ∙ some h)))
     (cases_lt last_day d)
 
 entry_is : (d : ℕ) (x : Date) (w : Weekday) (n : Option ℕ) → x ≡ date_at d → w ≡ weekday_at d → n ≡ Some d → Some (record { day = d; date = x; weekday = w; again = n }) ≡ Some (entry_at d)
@@ -33,7 +25,7 @@ pub made : (d : ℕ) (x : Date) (w : Weekday) (n : Option ℕ) → Some x ≡ da
     → Some (record { day = d; date = x; weekday = w; again = n }) ≡ entry_of d
 made d x w n p q r =
     ⊎_elim
-    (λ (h : last_day < d). let e = date_none d h in let z : ◌≡◌ {A = ℕ} 0 1 = cc in absurd (omega arith))
+    (λ (h : last_day < d). absurd (none-some x (sym (p ∙ date_none d h))))
     (λ (h : d ≤ last_day).
     let e = date_some d h in
     let f = weekday_at_lem d h in

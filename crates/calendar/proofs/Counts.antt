@@ -1,8 +1,10 @@
 -- Counts of business days.
-use Rattle.std.proofs.Common.{◌≡◌, ℕ, zero, suc, ◌+◌, ◌-◌, ◌<◌, ◌≤◌, Bool, true, false, cond, ◌&&◌, ltb, Some, None, refl, ap, ◌∙◌, ⊎_elim, add-zero, add-suc, add-one, arith}
-use Rattle.std.proofs.lemmas.Bool.{lt-ltb, le-ltb, cases_order}
+use Rattle.std.proofs.Common.{◌≡◌, ℕ, zero, suc, ◌+◌, ◌-◌, ◌<◌, ◌≤◌, Bool, true, false, cond, ◌&&◌, ltb, Some, None, Option, MatchOption, List, ◌∷◌, drop, sym, subst, refl, ap, ◌∙◌, ⊎_elim, add-zero, add-suc, add-one, arith}
+use Rattle.std.specs.List.{filter, slice_get, range_with_len}
+use Rattle.std.specs.Option.{option_map}
+use Rattle.std.proofs.lemmas.Bool.{lt-ltb, le-ltb, cases_lt, cases_order}
 use Rattle.days.specs.Dates.{last_day}
-use Rattle.calendar.specs.Notice.{business_days}
+use Rattle.calendar.specs.Notice.{business_days, Tenth}
 use Rattle.calendar.specs.Theorems.{OneTenth}
 
 module _ (b : ℕ → Bool) (t : ℕ) where
@@ -45,3 +47,49 @@ one_tenth b t (Some x) (Some y) p q =
     (⊎_elim (λ (l : x < y). absurd (omega (arith, later_more b t x y q.0 l q.2)))
     (λ (l : y < x). absurd (omega (arith, later_more b t y x p.0 l p.2))))
     (cases_order x y)
+
+-- The business days after a day up to the last one, in their order.
+module _ (b : ℕ → Bool) (t : ℕ) where
+  -- The one at the place k, of those after the day a.
+  abbrev After : ℕ → ℕ → Option ℕ → Type 0
+  After a k r = MatchOption r (business_days b t last_day ≤ business_days b t a + k)
+      (λ d. (t < d) × (d ≤ last_day) × (b d ≡ true) × (business_days b t d ≡ business_days b t a + k + 1))
+
+  -- One after the day a + 1, counted from the day a.
+  later : (a j k : ℕ) → business_days b t (a + 1) + j ≡ business_days b t a + k → (r : Option ℕ) → After (a + 1) j r → After a k r
+  later a j k e None p = omega arith
+  later a j k e (Some d) p = (p.0, p.1, p.2, omega (arith, p.3))
+
+  place : (n a k : ℕ) → t ≤ a → a + n ≡ last_day → After a k (slice_get (filter b (range_with_len (a + 1) n)) k)
+  place zero a k h l = let e : a ≡ last_day = omega arith in omega (arith, ap (business_days b t) e)
+  place (suc n) a k h l = by (b (a + 1)) refl k (λ j. place n (a + 1) j (omega arith) (omega arith))
+    where
+      rest : List ℕ
+      rest = filter b (range_with_len (a + 1 + 1) n)
+
+      by : (v : Bool) → b (a + 1) ≡ v → (k : ℕ) → ((j : ℕ) → After (a + 1) j (slice_get rest j)) → After a k (slice_get (cond v ((a + 1) ∷ rest) rest) k)
+      by true e zero p = (omega arith, omega arith, e, omega (arith, count_yes b t a h e))
+      by true e (suc k) p = later a k (suc k) (omega (arith, count_yes b t a h e)) _ (p k)
+      by false e k p = later a k k (omega (arith, count_no b t a h e)) _ (p k)
+
+  to_tenth : (r : Option ℕ) → After t 9 r → Tenth b t r
+  to_tenth None p = omega (arith, count_none b t t (omega arith))
+  to_tenth (Some d) p = (p.0, p.1, p.2, omega (arith, p.3, count_none b t t (omega arith)))
+
+  same : (r : Option ℕ) → option_map (λ x. x) r ≡ r
+  same None = refl
+  same (Some d) = refl
+
+  pub tenth_lem : (r : Option ℕ) → option_map (λ x. x) r ≡ slice_get (filter b (drop 1 (range_with_len t (last_day + 1 - t)))) 9 → Tenth b t r
+  tenth_lem r e =
+      let q = sym e ∙ same r in
+      let at : ℕ → Option ℕ = λ n. slice_get (filter b (drop 1 (range_with_len t n))) 9 in
+      to_tenth r (subst (λ o. After t 9 o) q
+      (⊎_elim
+      (λ (h : last_day < t).
+      let n : 0 ≡ last_day + 1 - t = omega arith in
+      subst (λ m. After t 9 (at m)) n (omega (arith, count_none b t last_day (omega arith))))
+      (λ (h : t ≤ last_day).
+      let n : suc (last_day - t) ≡ last_day + 1 - t = omega arith in
+      subst (λ m. After t 9 (at m)) n (place (last_day - t) t 9 (omega arith) (omega arith)))
+      (cases_lt last_day t)))

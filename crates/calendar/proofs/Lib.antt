@@ -1,4 +1,2 @@
 pub mod Counts
-mod Bits
-mod Listing
 mod Weeks

@@ -27,13 +27,7 @@ impl Calendar for TableCalendar<'_> {
     ghost bounded = { λ x d h. table_bounded x.bytes.now d h };
 
     fn is_business(&self, day: u64) -> bool {
-        if day > LAST_DAY {
-            return false;
-        }
-        let index = (day / 8) as usize;
-        if index >= self.bytes.len() {
-            return false;
-        }
-        (self.bytes[index] >> (day % 8)) & 1 == 1
+        let byte = self.bytes.get((day / 8) as usize);
+        day <= LAST_DAY && byte.is_some_and(|byte| (*byte >> (day % 8)) & 1 == 1)
     }
 }

@@ -29,22 +29,20 @@ impl<'a> WeekdayCalendar<'a> {
 fn is_workday(day: u64) -> bool
     ensures { result ≡ is_workday (weekday_of day) }
 {
-    match weekday_of(day) {
-        None | Some(Weekday::Saturday) | Some(Weekday::Sunday) => false,
-        Some(_) => true,
-    }
+    !matches!(
+        weekday_of(day),
+        None | Some(Weekday::Saturday | Weekday::Sunday)
+    )
 }
 
 // Whether the day is one of the holidays that count.
 fn is_listed(holidays: &[u64], day: u64) -> bool
     ensures { result ≡ is_in (take most_holidays holidays.now) day }
 {
-    for holiday in holidays.iter().take(MOST_HOLIDAYS) {
-        if *holiday == day {
-            return true;
-        }
-    }
-    false
+    holidays
+        .iter()
+        .take(MOST_HOLIDAYS)
+        .any(|holiday| *holiday == day)
 }
 
 impl Calendar for WeekdayCalendar<'_> {

@@ -1,5 +1,5 @@
 -- Weekdays come round every seven days.
-use Rattle.std.proofs.Common.{◌≡◌, ℕ, zero, suc, ◌+◌, ◌*◌, ◌/◌, ◌%◌, ◌<◌, ◌≤◌, Some, None, sym, refl, ap, ◌∙◌, arith}
+use Rattle.std.proofs.Common.{◌≡◌, ℕ, zero, suc, ◌+◌, ◌*◌, ◌/◌, ◌%◌, ◌<◌, ◌≤◌, [], ◌∷◌, get_or, Some, None, sym, refl, ap, ◌∙◌, arith}
 use Rattle.std.proofs.lemmas.Nat.{div-add-mod'}
 use Rattle.std.proofs.lemmas.Bool.{cond-true, cond-false, le-leb, lt-leb}
 use Rattle.days.specs.Dates.{last_day}
@@ -41,3 +41,16 @@ weekday_some d r h e = weekday_at_lem d h ∙ ap Some (by_remainder_lem d ∙ ap
 pub weekday_none : (d : ℕ) → last_day < d → weekday_of d ≡ None
 unfolding weekday_of
 weekday_none d h = cond-false _ _ _ (lt-leb d last_day h)
+
+-- The week that day 0 begins, by the remainder.
+pub week_at : (r : ℕ) (x : Weekday) → r < 7
+    → get_or (Saturday ∷ (Sunday ∷ (Monday ∷ (Tuesday ∷ (Wednesday ∷ (Thursday ∷ (Friday ∷ []))))))) r x ≡ weekday_at r
+unfolding weekday_at
+week_at zero x h = refl
+week_at (suc zero) x h = refl
+week_at (suc (suc zero)) x h = refl
+week_at (suc (suc (suc zero))) x h = refl
+week_at (suc (suc (suc (suc zero)))) x h = refl
+week_at (suc (suc (suc (suc (suc zero))))) x h = refl
+week_at (suc (suc (suc (suc (suc (suc zero)))))) x h = refl
+week_at (suc (suc (suc (suc (suc (suc (suc r))))))) x h = absurd (omega arith)

@@ -3,7 +3,7 @@ ghost use Rattle.std.specs.Prelude.{◌≡◌, Some};
 ghost use Rattle.days.specs.Dates.{date_of, date_text, day_of};
 
 use crate::LAST_DAY;
-use crate::table::{first_day, month_length, month_of};
+use crate::table::Month;
 use std::fmt;
 
 /// A year, a month and a day of the month. Any numbers may stand here: `day_of` says whether they are a date.
@@ -24,14 +24,16 @@ pub fn day_of(date: Date) -> Option<u64>
     ensures { result ≡ day_of date }
 {
     let Date { year, month, day } = date;
-    if year < FIRST_YEAR || year > LAST_YEAR || month < 1 || month > 12 || day < 1 {
+    if !(FIRST_YEAR..=LAST_YEAR).contains(&year) || !(1..=12).contains(&month) || day < 1 {
         return None;
     }
-    let k = (year - FIRST_YEAR) as usize * 12 + (month - 1) as usize;
-    if day as u64 > month_length(k) {
+    let month = Month {
+        index: usize::from(year - FIRST_YEAR) * 12 + usize::from(month - 1),
+    };
+    if u64::from(day) > month.length() {
         return None;
     }
-    Some(first_day(k) + (day - 1) as u64)
+    Some(month.first_day() + u64::from(day - 1))
 }
 
 /// The date of a day: `None` past the last day.
@@ -41,10 +43,10 @@ pub fn date_of(day: u64) -> Option<Date>
     if day > LAST_DAY {
         return None;
     }
-    let k = month_of(day);
-    let year = FIRST_YEAR + (k / 12) as u16;
-    let month = (k % 12) as u8 + 1;
-    let day = (day - first_day(k)) as u8 + 1;
+    let found = Month::of_day(day);
+    let year = FIRST_YEAR + (found.index / 12) as u16;
+    let month = (found.index % 12) as u8 + 1;
+    let day = (day - found.first_day()) as u8 + 1;
     Some(Date { year, month, day })
 }
 
@@ -53,9 +55,7 @@ impl fmt::Display for Date {
     ghost output = { λ x. Some (date_text x) };
 
     fn fmt<W: fmt::Write>(&self, f: &mut fmt::Formatter<W>) -> fmt::Result {
-        let year = self.year;
-        let (month_tens, month_ones) = (self.month / 10, self.month % 10);
-        let (day_tens, day_ones) = (self.day / 10, self.day % 10);
-        write!(f, "{year}-{month_tens}{month_ones}-{day_tens}{day_ones}")
+        let Date { year, month, day } = *self;
+        write!(f, "{year}-{month:02}-{day:02}")
     }
 }

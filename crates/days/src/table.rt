@@ -1,4 +1,4 @@
-//! The table of the months' first days, and the months of days. A month is counted from January 2000, which is 0.
+//! The table of the months' first days, and the months of days.
 ghost use Rattle.std.specs.Prelude.{◌≡◌, ◌+◌, ◌<◌, ◌≤◌, true, length};
 ghost use Rattle.days.specs.Dates.{last_day};
 ghost use Rattle.days.specs.Table.{is_month_table, length_of, month_start};
@@ -68,43 +68,35 @@ fn first_days() -> &'static [u16; 600]
     &FIRST_DAYS
 }
 
-// The first day of the month `k`.
-pub(crate) fn first_day(k: usize) -> u64
-    requires { k < 600 }
-    ensures { result ≡ month_start k }
-{
-    first_days()[k] as u64
+// A month of the years 2000 to 2049, counted from January 2000, which is 0.
+#[derive(Clone, Copy)]
+pub(crate) struct Month {
+    pub(crate) index: usize,
+    ghost in_table: { index < 600 },
 }
 
-// The number of days of the month `k`.
-pub(crate) fn month_length(k: usize) -> u64
-    requires { k < 600 }
-    ensures { result ≡ length_of k }
-{
-    let next = if k < 599 {
-        first_day(k + 1)
-    } else {
-        LAST_DAY + 1
-    };
-    next - first_day(k)
-}
-
-// The month that the day lies in.
-pub(crate) fn month_of(day: u64) -> usize
-    requires { day ≤ last_day }
-    ensures within { result < 600 }
-    ensures begun { month_start result ≤ day }
-    ensures left { day < month_start (result + 1) }
-{
-    let mut low = 0;
-    let mut high = 600;
-    while high - low > 1 {
-        let mid = low + (high - low) / 2;
-        if first_day(mid) <= day {
-            low = mid;
-        } else {
-            high = mid;
-        }
+impl Month {
+    // The month that the day lies in.
+    pub(crate) fn of_day(day: u64) -> Month
+        requires { day ≤ last_day }
+        ensures begun { month_start result.index ≤ day }
+        ensures left { day < month_start (result.index + 1) }
+    {
+        let begun = first_days().partition_point(|first| u64::from(*first) <= day);
+        Month { index: begun - 1 }
     }
-    low
+
+    pub(crate) fn first_day(self) -> u64
+        ensures { result ≡ month_start self.index }
+    {
+        u64::from(first_days()[self.index])
+    }
+
+    // The number of days.
+    pub(crate) fn length(self) -> u64
+        ensures { result ≡ length_of self.index }
+    {
+        let next = first_days().get(self.index + 1);
+        next.map_or(LAST_DAY + 1, |first| u64::from(*first)) - self.first_day()
+    }
 }

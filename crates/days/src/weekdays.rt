@@ -17,6 +17,17 @@ pub enum Weekday {
     Friday,
 }
 
+// The week that day 0 begins.
+const WEEK: [Weekday; 7] = [
+    Weekday::Saturday,
+    Weekday::Sunday,
+    Weekday::Monday,
+    Weekday::Tuesday,
+    Weekday::Wednesday,
+    Weekday::Thursday,
+    Weekday::Friday,
+];
+
 /// The weekday of a day: `None` past the last day.
 pub fn weekday_of(day: u64) -> Option<Weekday>
     ensures { result ≡ weekday_of day }
@@ -24,29 +35,21 @@ pub fn weekday_of(day: u64) -> Option<Weekday>
     if day > LAST_DAY {
         return None;
     }
-    match day % 7 {
-        0 => Some(Weekday::Saturday),
-        1 => Some(Weekday::Sunday),
-        2 => Some(Weekday::Monday),
-        3 => Some(Weekday::Tuesday),
-        4 => Some(Weekday::Wednesday),
-        5 => Some(Weekday::Thursday),
-        _ => Some(Weekday::Friday),
-    }
+    Some(WEEK[(day % 7) as usize])
 }
 
 impl fmt::Display for Weekday {
     ghost output = { λ w. Some (weekday_text w) };
 
     fn fmt<W: fmt::Write>(&self, f: &mut fmt::Formatter<W>) -> fmt::Result {
-        match self {
-            Weekday::Saturday => write!(f, "Saturday"),
-            Weekday::Sunday => write!(f, "Sunday"),
-            Weekday::Monday => write!(f, "Monday"),
-            Weekday::Tuesday => write!(f, "Tuesday"),
-            Weekday::Wednesday => write!(f, "Wednesday"),
-            Weekday::Thursday => write!(f, "Thursday"),
-            Weekday::Friday => write!(f, "Friday"),
-        }
+        f.write_str(match self {
+            Weekday::Saturday => "Saturday",
+            Weekday::Sunday => "Sunday",
+            Weekday::Monday => "Monday",
+            Weekday::Tuesday => "Tuesday",
+            Weekday::Wednesday => "Wednesday",
+            Weekday::Thursday => "Thursday",
+            Weekday::Friday => "Friday",
+        })
     }
 }

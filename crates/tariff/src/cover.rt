@@ -1,5 +1,5 @@
 //! Value, need and collateral: cents and points.
-ghost use Rattle.std.specs.Prelude.{◌≡◌};
+ghost use Rattle.std.specs.Prelude.{◌≡◌, ◌*◌};
 ghost use Rattle.definitions.specs.Cover.{need as need_of, points as points_of, weight as weight_of};
 ghost use Rattle.definitions.specs.Tariff.{value as value_of};
 ghost use Rattle.tariff.specs.Words.{in_word};
@@ -43,13 +43,20 @@ pub fn weight(kind: Kind) -> u64
     }
 }
 
+// The points of the cents of one kind.
+fn kind_points(cents: u64, kind: Kind) -> u128
+    ensures { result ≡ cents * weight_of kind }
+{
+    u128::from(cents) * u128::from(weight(kind))
+}
+
 /// The points of an agent's cents, one number for each kind.
 pub fn points(cents: &[u64; 4]) -> u128
     ensures { result ≡ points_of cents.now }
 {
     let [cash, bills, bonds, guarantees] = *cents;
-    u128::from(cash) * u128::from(CASH_POINTS)
-        + u128::from(bills) * u128::from(BILL_POINTS)
-        + u128::from(bonds) * u128::from(BOND_POINTS)
-        + u128::from(guarantees) * u128::from(GUARANTEE_POINTS)
+    kind_points(cash, Kind::Cash)
+        + kind_points(bills, Kind::Bills)
+        + kind_points(bonds, Kind::Bonds)
+        + kind_points(guarantees, Kind::Guarantees)
 }

@@ -4,4 +4,5 @@
 pub mod bills;
 pub mod cover;
 pub mod fines;
+mod rates;
 pub mod theorems;

@@ -1,13 +1,20 @@
 use Rattle.std.proofs.Common.{◌∙◌}
-use Rattle.almanac.proofs.Entries.{no_date, no_weekday, made}
+use Rattle.days.specs.Dates.{date_at}
+use Rattle.days.specs.Weekdays.{weekday_at}
+use Rattle.days.proofs.Conversions.{date_some}
+use Rattle.days.proofs.Weeks.{weekday_at_lem}
+use Rattle.almanac.proofs.Entries.{no_entry, made}
 use Rattle.almanac.proofs.entry.entry_of.Goals as goal
 
 pub returns-in_err-date : goal.returns-in_err-date
-returns-in_err-date c = c.from_residual.ensures ∙ no_date c.args.day c.in_err-date.ensures
+returns-in_err-date c =
+    let d = c.args.day in
+    c.from_residual.ensures ∙ no_entry d _ (date_at d) c.in_err-date.ensures (date_some d)
 
 pub returns-in_err-weekday : goal.returns-in_err-weekday
 returns-in_err-weekday c =
-    c.from_residual-in_err-weekday.ensures ∙ no_weekday c.args.day c.in_err-weekday.ensures
+    let d = c.args.day in
+    c.from_residual-in_err-weekday.ensures ∙ no_entry d _ (weekday_at d) c.in_err-weekday.ensures (weekday_at_lem d)
 
 pub returns : goal.returns
 returns c =

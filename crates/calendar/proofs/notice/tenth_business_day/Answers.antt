@@ -1,29 +1,16 @@
-use Rattle.std.proofs.Common.{sym, arith}
-use Rattle.calendar.proofs.Counts.{count_none, count_yes, count_no, count_mono}
+use Rattle.std.proofs.Common.{rules, tests}
+use Rattle.std.proofs.lemmas.Iterator.Adapters.{YieldsList-from_skip}
+use Rattle.std.proofs.lemmas.Iterator.Consumers.{YieldsList-at, YieldsList-from_filter, nth_from_yields_List}
+use Rattle.days.specs.Dates.{last_day}
+use Rattle.calendar.proofs.Counts.{tenth_lem}
+use Rattle.days.proofs.Spans.{YieldsList-from_span}
 use Rattle.calendar.proofs.notice.tenth_business_day.Goals as goal
-
-pub loop-day-init : goal.loop-day-init
-loop-day-init g c = (omega arith, omega arith, count_none _ _ c.args.today (omega arith))
-
-pub returns-then-count-eq-TENTH : goal.returns-then-count-eq-TENTH
-returns-then-count-eq-TENTH g c =
-    let e = sym c.if-is_business.ensures in
-    let b = g.C.Calendar.business c.args.calendar.now in
-    (omega arith, omega arith, e, omega (arith, count_yes b c.args.today c.loop-day.day c.loop-day.invariant.0 e))
-
-pub loop-day-preserved-else-count-eq-TENTH : goal.loop-day-preserved-else-count-eq-TENTH
-loop-day-preserved-else-count-eq-TENTH g c =
-    let e = sym c.if-is_business.ensures in
-    let b = g.C.Calendar.business c.args.calendar.now in
-    (omega arith, omega arith, omega (arith, count_yes b c.args.today c.loop-day.day c.loop-day.invariant.0 e))
-
-pub loop-day-preserved : goal.loop-day-preserved
-loop-day-preserved g c =
-    let e = sym c.if-is_business.ensures in
-    let b = g.C.Calendar.business c.args.calendar.now in
-    (omega arith, omega arith, omega (arith, count_no b c.args.today c.loop-day.day c.loop-day.invariant.0 e))
 
 pub returns : goal.returns
 returns g c =
     let b = g.C.Calendar.business c.args.calendar.now in
-    omega (arith, count_mono b c.args.today 18262 c.loop-day.day (omega arith))
+    let span = YieldsList-from_span c.args.today last_day c.new.ensures.start c.new.ensures.end c.new.ensures.exhausted in
+    let after = YieldsList-from_skip 1 (YieldsList-at c.skip.ensures.source span) c.skip.ensures.count in
+    tenth_lem b c.args.today c.nth.result
+    (nth_from_yields_List c.nth.result c.nth.new.self 9 c.nth.ensures.ran
+    (YieldsList-from_filter _ b (YieldsList-at c.filter.ensures.source after) c.filter.ensures.closure (λ x r q k. search (rules, tests))))

@@ -1,30 +1,15 @@
-use Rattle.std.proofs.Common.{sym, ◌∙◌}
-use Rattle.std.specs.Slice.Iter.{iter_rest}
-use Rattle.std.specs.Iterator.Adapters.{take_source, take_count}
-use Rattle.calendar.proofs.Listing.{left_found, left_passed, left_none}
+use Rattle.std.proofs.Common.{◌≡◌, ℕ, ◌||◌, eqb, List, take, refl, ◌∙◌, rules, tests}
+use Rattle.std.specs.List.{list_any}
+use Rattle.std.proofs.lemmas.Iterator.{YieldsList-from_slice, YieldsList-from_take}
+use Rattle.std.proofs.lemmas.Iterator.Search.{any_from_yields_List}
+use Rattle.std.proofs.lemmas.List.Recursion.{same_from_clauses}
+use Rattle.calendar.specs.Business.{is_in, most_holidays}
 use Rattle.calendar.proofs.weekdays.is_listed.Goals as goal
 
-pub loop-holiday-preserved : goal.loop-holiday-preserved
-loop-holiday-preserved c =
-    let h = c.in-Some.ensures.steps in
-    let before = c.loop-holiday.holiday-iterator in
-    let after = c.next.new.self in (
-      tt,
-      tt,
-      sym (left_passed (take_count before) (take_count after) (iter_rest (take_source before)) (iter_rest (take_source after))
-          c.in-Some.holiday.now c.args.day h.0 h.1 c.if-holiday-day.false) ∙ c.loop-holiday.invariant.2,
-    )
-
-pub returns-then-holiday-day : goal.returns-then-holiday-day
-returns-then-holiday-day c =
-    let h = c.in-Some.ensures.steps in
-    let before = c.loop-holiday.holiday-iterator in
-    let after = c.next.new.self in
-    sym (left_found (take_count before) (take_count after) (iter_rest (take_source before)) (iter_rest (take_source after))
-    c.in-Some.holiday.now c.args.day h.0 h.1 c.if-holiday-day.true) ∙ c.loop-holiday.invariant.2
+list_any_lem : (d : ℕ) (xs : List ℕ) → list_any (λ h. eqb h d) xs ≡ is_in xs d
+list_any_lem d = same_from_clauses (list_any (λ h. eqb h d)) (λ xs. is_in xs d) (λ h b. eqb h d || b) refl (λ _ _. refl) (λ _ _. refl)
 
 pub returns : goal.returns
 returns c =
-    let before = c.loop-holiday.holiday-iterator in
-    sym (left_none (take_count before) (iter_rest (take_source before)) c.args.day (λ p. (c.in-None.ensures.steps p).0))
-    ∙ c.loop-holiday.invariant.2
+    any_from_yields_List (λ h. eqb h c.args.day) _ _ c.any.result c.any.ensures.ran (YieldsList-from_take most_holidays (YieldsList-from_slice c.args.holidays.now cc) cc) (λ x b q k. search (rules, tests))
+    ∙ list_any_lem c.args.day (take most_holidays c.args.holidays.now)

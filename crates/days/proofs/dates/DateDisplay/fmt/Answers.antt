@@ -1,8 +1,10 @@
-use Rattle.std.proofs.Common.{ℕ, List, subst, append_assoc}
-use Rattle.std.specs.Fmt.{HasWritten}
+use Rattle.std.proofs.Common.{refl, arith}
+use Rattle.std.proofs.Output.{has_written_of_eq}
+use Rattle.days.proofs.Digits.{two_digits_lem}
 use Rattle.days.proofs.dates.DateDisplay.fmt.Goals as goal
 
--- the tens and ones of a number are written one after the other
 pub returns-clause-writes : goal.returns-clause-writes
 returns-clause-writes g c = λ plain ok.
-    subst (λ (bs : List ℕ). HasWritten g.W.Write.write_str_gives c.args.f.now bs c.write.new.self) (simp append_assoc) (c.write.ensures.writes plain ok)
+    let month = two_digits_lem _ c.args.self.now.month (omega arith) c.laid_out.ensures in
+    let day = two_digits_lem _ c.args.self.now.day (omega arith) c.laid_out-2.ensures in
+    has_written_of_eq _ _ _ _ _ (rw (month, day) refl) (c.write.ensures.writes plain ok)
