@@ -5,70 +5,72 @@ ghost use Rattle.std.specs.Prelude.{◌≡◌};
 ghost use Rattle.image.specs.Image.{frame_of, imaged};
 ghost use Rattle.image.specs.Zero.{imaged_outside};
 
+use register::changes::{Numbers, credit, debit, hold, release};
 use register::{Refused, Register};
 
-mod changes;
 mod lines;
+mod numbers;
 pub mod theorems;
 mod view;
 mod words;
 
-use changes::{credit_in, debit_in, hold_in, release_in};
-use lines::{accounts_in, free_in, reserved_in, securities_in};
+use numbers::ImageNumbers;
 pub use view::Image;
 
 /// A register over bytes that it borrows. It never reads or writes the bytes past its last number.
 #[derive(Drop)]
 pub struct ImageRegister<'a> {
-    bytes: &'a mut [u8],
+    numbers: ImageNumbers<'a>,
 }
 
 impl<'a> ImageRegister<'a> {
     /// The register in these bytes, which are left as they are.
     pub fn new(bytes: &'a mut [u8]) -> ImageRegister<'a>
-        ensures same { result.bytes.now ≡ bytes.old }
-        ensures lent { result.bytes.ghost_name ≡ bytes.entry.ghost_name }
+        ensures same { result.numbers.bytes.now ≡ bytes.old }
+        ensures lent { result.numbers.bytes.ghost_name ≡ bytes.entry.ghost_name }
     {
-        ImageRegister { bytes }
+        ImageRegister {
+            numbers: ImageNumbers { bytes },
+        }
     }
 }
 
 impl<'a> Register for ImageRegister<'a> {
-    ghost holdings = { λ x. imaged x.bytes.now };
+    ghost holdings = { λ x. imaged x.numbers.bytes.now };
 
-    ghost frame = { λ x. frame_of x.bytes.ghost_name x.bytes.now };
+    ghost frame = { λ x. frame_of x.numbers.bytes.ghost_name x.numbers.bytes.now };
 
-    ghost outside = { λ x a s h. imaged_outside x.bytes.now a s h };
+    ghost outside = { λ x a s h. imaged_outside x.numbers.bytes.now a s h };
 
     fn accounts(&self) -> usize {
-        accounts_in(self.bytes)
+        self.numbers.accounts()
     }
 
     fn securities(&self) -> usize {
-        securities_in(self.bytes)
+        self.numbers.securities()
     }
 
     fn free(&self, account: usize, security: usize) -> u64 {
-        free_in(self.bytes, account, security)
+        self.numbers.free(account, security)
     }
 
     fn reserved(&self, account: usize, security: usize) -> u64 {
-        reserved_in(self.bytes, account, security)
+        self.numbers.reserved(account, security)
     }
 
     fn credit(&mut self, account: usize, security: usize, shares: u64) -> Result<(), Refused> {
-        credit_in(self.bytes, account, security, shares)
+        credit(&mut self.numbers, account, security, shares)
     }
 
     fn debit(&mut self, account: usize, security: usize, shares: u64) -> Result<(), Refused> {
-        debit_in(self.bytes, account, security, shares)
+        debit(&mut self.numbers, account, security, shares)
     }
 
     fn hold(&mut self, account: usize, security: usize, shares: u64) -> Result<(), Refused> {
-        hold_in(self.bytes, account, security, shares)
+        hold(&mut self.numbers, account, security, shares)
     }
 
     fn release(&mut self, account: usize, security: usize, shares: u64) -> Result<(), Refused> {
-        release_in(self.bytes, account, security, shares)
+        release(&mut self.numbers, account, security, shares)
     }
 }

@@ -1,5 +1,5 @@
 use Rattle.image.specs.Image.{imaged}
-use Rattle.image.proofs.lines.securities_in.Goals as goal
+use Rattle.image.proofs.view.Image.securities.Goals as goal
 
 pub returns : goal.returns
 unfolding imaged
