@@ -1,8 +1,7 @@
 //! Whether an opening can be taken.
 ghost use Rattle.std.specs.Prelude.{Decides};
 ghost use Rattle.image.specs.View.{image_of};
-ghost use Rattle.movement.specs.Inner.{Taken};
-ghost use Rattle.movement.specs.Opening.{Acceptable, AccountFits};
+ghost use Rattle.movement.specs.Opening.{Acceptable, AccountFits, Opened};
 
 use image::Image;
 use register::CAP;
@@ -40,13 +39,14 @@ fn acceptable(opening: Image) -> bool
     true
 }
 
-// The counts of an opening, or 0 and 0 where it is not acceptable.
-pub(crate) fn opening_counts(opening: Image) -> (usize, usize)
-    ensures { Taken (image_of opening.entry) result.0 result.1 }
+// The opening where it is acceptable, and otherwise one with no lines.
+pub(crate) fn taken(opening: Image) -> Image
+    ensures opened { Opened (image_of opening.entry) (image_of result) }
+    ensures acceptable { Acceptable (image_of result) }
 {
     if acceptable(opening) {
-        (opening.accounts(), opening.securities())
+        opening
     } else {
-        (0, 0)
+        Image::new(&[])
     }
 }
