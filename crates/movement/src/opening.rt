@@ -16,12 +16,9 @@ pub const MAX_SECURITIES: usize = 16;
 fn account_fits(opening: Image, account: usize) -> bool
     ensures { Decides result (AccountFits (image_of opening.entry) account) }
 {
-    for security in 0..opening.securities() {
-        if opening.free(account, security) > CAP || opening.reserved(account, security) > CAP {
-            return false;
-        }
-    }
-    true
+    (0..opening.securities()).all(|security| {
+        opening.free(account, security) <= CAP && opening.reserved(account, security) <= CAP
+    })
 }
 
 // Whether the opening has few enough accounts and securities, and no number over the cap.
@@ -31,12 +28,7 @@ fn acceptable(opening: Image) -> bool
     if opening.accounts() > MAX_ACCOUNTS || opening.securities() > MAX_SECURITIES {
         return false;
     }
-    for account in 0..opening.accounts() {
-        if !account_fits(opening, account) {
-            return false;
-        }
-    }
-    true
+    (0..opening.accounts()).all(|account| account_fits(opening, account))
 }
 
 // The opening where it is acceptable, and otherwise one with no lines.
