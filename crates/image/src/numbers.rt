@@ -1,46 +1,38 @@
-//! The numbers of a register in bytes, to be set at will.
+//! The numbers of a register in bytes, as the four changes read and set them.
 ghost use Rattle.image.specs.Image.{frame_of, imaged};
 
+use crate::ImageRegister;
 use crate::lines::find_line;
-use crate::view::Image;
-use crate::words::write_u64;
+use crate::words::{read_u64, write_u64};
 use register::changes::Numbers;
 
-// The numbers in these bytes. No user of a register comes by it.
-#[derive(Drop)]
-pub(crate) struct ImageNumbers<'a> {
-    pub(crate) bytes: &'a mut [u8],
-}
+/// The key to the numbers. Nobody outside this crate comes by one.
+#[derive(Clone, Copy)]
+pub struct ImageKey(pub(crate) ());
 
-impl<'a> Numbers for ImageNumbers<'a> {
+impl<'a> Numbers for ImageRegister<'a> {
     ghost holdings = { λ x. imaged x.bytes.now };
 
     ghost frame = { λ x. frame_of x.bytes.ghost_name x.bytes.now };
 
-    fn accounts(&self) -> usize {
-        Image::new(self.bytes).accounts()
+    type Key = ImageKey;
+
+    fn line(&self, account: usize, security: usize) -> Option<(u64, u64)> {
+        let line = find_line(self.bytes, account, security)?;
+        Some((
+            read_u64(self.bytes, line.free_at),
+            read_u64(self.bytes, line.reserved_at),
+        ))
     }
 
-    fn securities(&self) -> usize {
-        Image::new(self.bytes).securities()
-    }
-
-    fn free(&self, account: usize, security: usize) -> u64 {
-        Image::new(self.bytes).free(account, security)
-    }
-
-    fn reserved(&self, account: usize, security: usize) -> u64 {
-        Image::new(self.bytes).reserved(account, security)
-    }
-
-    fn set_free(&mut self, account: usize, security: usize, number: u64) {
+    fn set_free(&mut self, _key: ImageKey, account: usize, security: usize, number: u64) {
         let bytes = &mut *self.bytes;
         if let Some(line) = find_line(bytes, account, security) {
             write_u64(bytes, line.free_at, number);
         }
     }
 
-    fn set_reserved(&mut self, account: usize, security: usize, number: u64) {
+    fn set_reserved(&mut self, _key: ImageKey, account: usize, security: usize, number: u64) {
         let bytes = &mut *self.bytes;
         if let Some(line) = find_line(bytes, account, security) {
             write_u64(bytes, line.reserved_at, number);

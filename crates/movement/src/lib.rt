@@ -16,10 +16,10 @@ mod numbers;
 mod opening;
 mod state;
 
+use lines::MovementKey;
 use numbers::Movement;
 use opening::taken;
 pub use opening::{MAX_ACCOUNTS, MAX_SECURITIES};
-use state::MovementNumbers;
 pub use state::MovementRegister;
 
 impl<'a> MovementRegister<'a> {
@@ -34,9 +34,7 @@ impl<'a> MovementRegister<'a> {
             reserved: 0,
         };
         let movements = vec![in heap; still; opening.accounts() * opening.securities()]?;
-        Ok(MovementRegister {
-            numbers: MovementNumbers { opening, movements },
-        })
+        Ok(MovementRegister { opening, movements })
     }
 }
 
@@ -48,34 +46,35 @@ impl<'a> Register for MovementRegister<'a> {
     ghost outside = { λ x a s h. moved_outside x a s h };
 
     fn accounts(&self) -> usize {
-        self.numbers.accounts()
+        self.opening.accounts()
     }
 
     fn securities(&self) -> usize {
-        self.numbers.securities()
+        self.opening.securities()
     }
 
     fn free(&self, account: usize, security: usize) -> u64 {
-        self.numbers.free(account, security)
+        self.line(account, security).map_or(0, |(free, _)| free)
     }
 
     fn reserved(&self, account: usize, security: usize) -> u64 {
-        self.numbers.reserved(account, security)
+        self.line(account, security)
+            .map_or(0, |(_, reserved)| reserved)
     }
 
     fn credit(&mut self, account: usize, security: usize, shares: u64) -> Result<(), Refused> {
-        credit(&mut self.numbers, account, security, shares)
+        credit(self, MovementKey(()), account, security, shares)
     }
 
     fn debit(&mut self, account: usize, security: usize, shares: u64) -> Result<(), Refused> {
-        debit(&mut self.numbers, account, security, shares)
+        debit(self, MovementKey(()), account, security, shares)
     }
 
     fn hold(&mut self, account: usize, security: usize, shares: u64) -> Result<(), Refused> {
-        hold(&mut self.numbers, account, security, shares)
+        hold(self, MovementKey(()), account, security, shares)
     }
 
     fn release(&mut self, account: usize, security: usize, shares: u64) -> Result<(), Refused> {
-        release(&mut self.numbers, account, security, shares)
+        release(self, MovementKey(()), account, security, shares)
     }
 }

@@ -7,19 +7,14 @@ ghost use Rattle.movement.specs.Opening.{Acceptable};
 use crate::numbers::Movement;
 use image::Image;
 
-// The numbers of an opening with the movement of each line since then, account by account. No user of a register comes by them.
+/// A register over an opening that it only reads. For each line of the opening, account by account, it keeps the movement of the
+/// line's numbers since then.
 #[derive(Drop)]
-pub(crate) struct MovementNumbers<'a> {
+pub struct MovementRegister<'a> {
     pub(crate) opening: Image<'a>,
     pub(crate) movements: Vec<Movement>,
     ghost acceptable: { Acceptable (image_of opening) },
     ghost len: { length movements.items ≡ (image_of opening).accounts * (image_of opening).securities },
     ghost free: { FreeSettled (image_of opening) (image_of opening).accounts (image_of opening).securities movements.items },
     ghost reserved: { ReservedSettled (image_of opening) (image_of opening).accounts (image_of opening).securities movements.items },
-}
-
-/// A register over an opening that it only reads. For each line of the opening it keeps the movement of its numbers since then.
-#[derive(Drop)]
-pub struct MovementRegister<'a> {
-    pub(crate) numbers: MovementNumbers<'a>,
 }

@@ -2,7 +2,7 @@ use Rattle.std.proofs.Common.{rules, w64, SFits}
 use Rattle.std.proofs.lemmas.List.{length-set}
 use Rattle.image.specs.View.{image_of}
 use Rattle.movement.proofs.Movements.{reserved_bound, moved_reserved, settled_reserved}
-use Rattle.movement.proofs.lines.MovementNumbersNumbers.set_reserved.Goals as goal
+use Rattle.movement.proofs.lines.MovementRegisterNumbers.set_reserved.Goals as goal
 
 pub towards-requires-clause-bound : goal.towards-requires-clause-bound
 towards-requires-clause-bound c =

@@ -1,5 +1,5 @@
 use Rattle.image.proofs.Places.{set_reserved_after, set_reserved_frame}
-use Rattle.image.proofs.numbers.ImageNumbersNumbers.set_reserved.Goals as goal
+use Rattle.image.proofs.numbers.ImageRegisterNumbers.set_reserved.Goals as goal
 
 pub returns-in-Some-clause-number : goal.returns-in-Some-clause-number
 returns-in-Some-clause-number c =

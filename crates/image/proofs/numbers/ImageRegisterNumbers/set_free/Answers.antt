@@ -1,5 +1,5 @@
 use Rattle.image.proofs.Places.{set_free_after, set_free_frame}
-use Rattle.image.proofs.numbers.ImageNumbersNumbers.set_free.Goals as goal
+use Rattle.image.proofs.numbers.ImageRegisterNumbers.set_free.Goals as goal
 
 pub returns-in-Some-clause-number : goal.returns-in-Some-clause-number
 returns-in-Some-clause-number c =
