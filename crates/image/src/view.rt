@@ -33,6 +33,8 @@ impl<'a> Image<'a> {
         counts_in(self.bytes).securities
     }
 
+    // The next two differ in the place that they read alone, and are one call each.
+
     /// The free shares of a line: 0 outside the counts.
     pub fn free(self, account: usize, security: usize) -> u64
         ensures { result ≡ (image_of self.entry).free account security }
