@@ -14,7 +14,7 @@ for a in range(A):
         i=a*S+s
         free[a,s]=big(nums[4+8*i:12+8*i]); j=A*S+i
         res[a,s]=big(nums[4+8*j:12+8*j])
-changes=[(k.lower(),int(a),int(s),int(q.replace('_',''))) for k,a,s,q in re.findall(r'Change::(\w+)\(Line \{ account: (\d+), security: (\d+) \}, ([\d_]+)\)',src)]
+changes=[(k.lower(),int(a),int(s),int(q.replace('_',''))) for k,a,s,q in re.findall(r'Change \{ kind: Kind::(\w+), line: Line \{ account: (\d+), security: (\d+) \}, shares: ([\d_]+) \}',src)]
 def put(k,a,s,q):
     if a>=A or s>=S: return False
     f,r=free[a,s],res[a,s]

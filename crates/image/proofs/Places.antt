@@ -7,7 +7,7 @@ use Rattle.std.proofs.lemmas.Bool.{cases_Bool, cond-false, cond-true, leb-true, 
 use Rattle.register.specs.Holdings.{with_free, with_reserved, Inside}
 use Rattle.register.proofs.Changed.{same_holdings}
 use Rattle.register.proofs.Sums.{is_put}
-use Rattle.image.specs.Image.{u16_at, u64_at, size_of, whole, accounts_of, securities_of, free_place, reserved_place, inside, imaged, beyond}
+use Rattle.image.specs.Image.{u16_at, u64_at, size_of, whole, accounts_of, securities_of, free_place, reserved_place, inside, imaged, beyond, frame_of}
 use Rattle.image.specs.Inner.{Stored, Found}
 use Rattle.image.specs.Zero.{inside_true}
 use Rattle.image.specs.declared.lines.Line.{Line}
@@ -66,18 +66,6 @@ module _ (bs cs : List ℕ) (at v : ℕ) (st : Stored bs cs at v) (behind : 4 �
 
   reserved_at_same : (b t : ℕ) → reserved_place cs b t ≡ reserved_place bs b t
   reserved_at_same b t = rw (accounts_same, securities_same)
-
-  found_same : (l : Line) → Found bs l → Found cs l
-  unfolding imaged
-  found_same l f =
-      record {
-        account = omega (arith, accounts_same, f.account);
-        security = omega (arith, securities_same, f.security);
-        free_at = f.free_at ∙ sym (free_at_same l.account l.security);
-        reserved_at = f.reserved_at ∙ sym (reserved_at_same l.account l.security);
-        free_room = omega (arith, st.len, f.free_room);
-        reserved_room = omega (arith, st.len, f.reserved_room);
-      }
 
   size_same : size_of cs ≡ size_of bs
   size_same = rw (header_accounts, header_securities)
@@ -152,33 +140,28 @@ module _ (bs cs : List ℕ) (a s v : ℕ) (within : Inside (imaged bs) a s) wher
       (λ b t ne. cond_same (inside cs b t) (inside bs b t) _ _ (is b t)
       (λ i. ap (u64_at cs) (reserved_at_same bs cs at v st (omega arith) b t) ∙ number_same bs cs (m + (a * n + s)) v (m + (b * n + t)) st (λ e. lines_apart n a s b t within.1 (inside_true bs b t i).1 ne (omega arith)))))
 
-pub free_found : (bs : List ℕ) (l : Line) → Found bs l → u64_at bs l.free_at ≡ (imaged bs).free l.account l.security
-free_found bs l f = ap (u64_at bs) f.free_at ∙ sym (imaged_free bs l.account l.security (f.account, f.security))
+module _ (bs : List ℕ) (a s : ℕ) (l : Line) (f : Found bs a s l) where
+  pub free_found : u64_at bs l.free_at ≡ (imaged bs).free a s
+  free_found = ap (u64_at bs) f.free_at ∙ sym (imaged_free bs a s (f.account, f.security))
 
-pub reserved_found : (bs : List ℕ) (l : Line) → Found bs l → u64_at bs l.reserved_at ≡ (imaged bs).reserved l.account l.security
-reserved_found bs l f = ap (u64_at bs) f.reserved_at ∙ sym (imaged_reserved bs l.account l.security (f.account, f.security))
+  pub reserved_found : u64_at bs l.reserved_at ≡ (imaged bs).reserved a s
+  reserved_found = ap (u64_at bs) f.reserved_at ∙ sym (imaged_reserved bs a s (f.account, f.security))
 
-module _ (bs cs : List ℕ) (l : Line) (v : ℕ) (f : Found bs l) where
-  pub set_free_after : Stored bs cs l.free_at v → imaged cs ≡ with_free (imaged bs) l.account l.security v
-  set_free_after st = stored_free bs cs l.account l.security v (f.account, f.security) (rw f.free_at at st)
+  module _ (cs : List ℕ) (v : ℕ) where
+    pub set_free_after : Stored bs cs l.free_at v → imaged cs ≡ with_free (imaged bs) a s v
+    set_free_after st = stored_free bs cs a s v (f.account, f.security) (rw f.free_at at st)
 
-  pub set_free_beyond : Stored bs cs l.free_at v → beyond cs ≡ beyond bs
-  unfolding imaged
-  set_free_beyond st =
-      let r = room bs l.account l.security f.account f.security in
-      beyond_same bs cs l.free_at v st (omega (arith, f.free_at)) (enough bs l.account f.account) (omega (arith, f.free_at))
+    pub set_free_frame : Stored bs cs l.free_at v → (lender : ℕ) → frame_of lender cs ≡ frame_of lender bs
+    unfolding imaged
+    set_free_frame st lender =
+        let r = room bs a s f.account f.security in
+        ap (λ (rest : List ℕ). record { lender = lender; beyond = rest }) (beyond_same bs cs l.free_at v st (omega (arith, f.free_at)) (enough bs a f.account) (omega (arith, f.free_at)))
 
-  pub set_free_stays : Stored bs cs l.free_at v → Found cs l
-  set_free_stays st = found_same bs cs l.free_at v st (omega (arith, f.free_at)) l f
+    pub set_reserved_after : Stored bs cs l.reserved_at v → imaged cs ≡ with_reserved (imaged bs) a s v
+    set_reserved_after st = stored_reserved bs cs a s v (f.account, f.security) (rw f.reserved_at at st)
 
-  pub set_reserved_after : Stored bs cs l.reserved_at v → imaged cs ≡ with_reserved (imaged bs) l.account l.security v
-  set_reserved_after st = stored_reserved bs cs l.account l.security v (f.account, f.security) (rw f.reserved_at at st)
-
-  pub set_reserved_beyond : Stored bs cs l.reserved_at v → beyond cs ≡ beyond bs
-  unfolding imaged
-  set_reserved_beyond st =
-      let r = room bs l.account l.security f.account f.security in
-      beyond_same bs cs l.reserved_at v st (omega (arith, f.reserved_at)) (enough bs l.account f.account) (omega (arith, f.reserved_at))
-
-  pub set_reserved_stays : Stored bs cs l.reserved_at v → Found cs l
-  set_reserved_stays st = found_same bs cs l.reserved_at v st (omega (arith, f.reserved_at)) l f
+    pub set_reserved_frame : Stored bs cs l.reserved_at v → (lender : ℕ) → frame_of lender cs ≡ frame_of lender bs
+    unfolding imaged
+    set_reserved_frame st lender =
+        let r = room bs a s f.account f.security in
+        ap (λ (rest : List ℕ). record { lender = lender; beyond = rest }) (beyond_same bs cs l.reserved_at v st (omega (arith, f.reserved_at)) (enough bs a f.account) (omega (arith, f.reserved_at)))

@@ -10,12 +10,12 @@ pub record Stored (before after : List ℕ) (at v : ℕ) : Type 0 where
   pub value : u64_at after at ≡ v
   pub others : (i : ℕ) → (i < at) ⊎ (at + 8 ≤ i) → slice_index after i ≡ slice_index before i
 
--- A line of the register, with the places of its numbers.
-pub record Found (bs : List ℕ) (l : Line) : Type 0 where
-  pub account : l.account < (imaged bs).accounts
-  pub security : l.security < (imaged bs).securities
-  pub free_at : l.free_at ≡ free_place bs l.account l.security
-  pub reserved_at : l.reserved_at ≡ reserved_place bs l.account l.security
+-- The line (a, s) of the register, and the places l of its numbers.
+pub record Found (bs : List ℕ) (a s : ℕ) (l : Line) : Type 0 where
+  pub account : a < (imaged bs).accounts
+  pub security : s < (imaged bs).securities
+  pub free_at : l.free_at ≡ free_place bs a s
+  pub reserved_at : l.reserved_at ≡ reserved_place bs a s
   pub free_room : l.free_at + 8 ≤ length bs
   pub reserved_room : l.reserved_at + 8 ≤ length bs
 

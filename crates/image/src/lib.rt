@@ -5,16 +5,16 @@ ghost use Rattle.std.specs.Prelude.{◌≡◌};
 ghost use Rattle.image.specs.Image.{frame_of, imaged};
 ghost use Rattle.image.specs.Zero.{imaged_outside};
 
+use register::changes::{credit, debit, hold, release};
 use register::{Refused, Register};
 
-mod changes;
 mod lines;
+mod numbers;
 pub mod theorems;
 mod view;
 mod words;
 
-use changes::{credit_in, debit_in, hold_in, release_in};
-use lines::{accounts_in, free_in, reserved_in, securities_in};
+use numbers::ImageKey;
 pub use view::Image;
 
 /// A register over bytes that it borrows. It never reads or writes the bytes past its last number.
@@ -41,34 +41,34 @@ impl<'a> Register for ImageRegister<'a> {
     ghost outside = { λ x a s h. imaged_outside x.bytes.now a s h };
 
     fn accounts(&self) -> usize {
-        accounts_in(self.bytes)
+        Image::new(self.bytes).accounts()
     }
 
     fn securities(&self) -> usize {
-        securities_in(self.bytes)
+        Image::new(self.bytes).securities()
     }
 
     fn free(&self, account: usize, security: usize) -> u64 {
-        free_in(self.bytes, account, security)
+        Image::new(self.bytes).free(account, security)
     }
 
     fn reserved(&self, account: usize, security: usize) -> u64 {
-        reserved_in(self.bytes, account, security)
+        Image::new(self.bytes).reserved(account, security)
     }
 
     fn credit(&mut self, account: usize, security: usize, shares: u64) -> Result<(), Refused> {
-        credit_in(self.bytes, account, security, shares)
+        credit(self, ImageKey(()), account, security, shares)
     }
 
     fn debit(&mut self, account: usize, security: usize, shares: u64) -> Result<(), Refused> {
-        debit_in(self.bytes, account, security, shares)
+        debit(self, ImageKey(()), account, security, shares)
     }
 
     fn hold(&mut self, account: usize, security: usize, shares: u64) -> Result<(), Refused> {
-        hold_in(self.bytes, account, security, shares)
+        hold(self, ImageKey(()), account, security, shares)
     }
 
     fn release(&mut self, account: usize, security: usize, shares: u64) -> Result<(), Refused> {
-        release_in(self.bytes, account, security, shares)
+        release(self, ImageKey(()), account, security, shares)
     }
 }

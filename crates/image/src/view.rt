@@ -2,7 +2,8 @@
 ghost use Rattle.std.specs.Prelude.{◌≡◌};
 ghost use Rattle.image.specs.View.{image_of};
 
-use crate::lines::{accounts_in, free_in, reserved_in, securities_in};
+use crate::lines::{counts_in, find_line};
+use crate::words::read_u64;
 
 /// A view of a register in bytes.
 #[derive(Clone, Copy)]
@@ -22,27 +23,35 @@ impl<'a> Image<'a> {
     pub fn accounts(self) -> usize
         ensures { result ≡ (image_of self.entry).accounts }
     {
-        accounts_in(self.bytes)
+        counts_in(self.bytes).accounts
     }
 
     /// The number of securities: 0 where the bytes are too few.
     pub fn securities(self) -> usize
         ensures { result ≡ (image_of self.entry).securities }
     {
-        securities_in(self.bytes)
+        counts_in(self.bytes).securities
     }
+
+    // The next two differ in the place that they read alone, and are one call each.
 
     /// The free shares of a line: 0 outside the counts.
     pub fn free(self, account: usize, security: usize) -> u64
         ensures { result ≡ (image_of self.entry).free account security }
     {
-        free_in(self.bytes, account, security)
+        find_line(self.bytes, account, security).map_or(
+            0,
+            |line| read_u64(self.bytes, line.free_at),
+        )
     }
 
     /// The reserved shares of a line: 0 outside the counts.
     pub fn reserved(self, account: usize, security: usize) -> u64
         ensures { result ≡ (image_of self.entry).reserved account security }
     {
-        reserved_in(self.bytes, account, security)
+        find_line(self.bytes, account, security).map_or(
+            0,
+            |line| read_u64(self.bytes, line.reserved_at),
+        )
     }
 }

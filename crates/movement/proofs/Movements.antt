@@ -1,7 +1,7 @@
 -- What a new movement does to the holdings.
-use Rattle.std.proofs.Common.{◌≡◌, ℕ, ◌+◌, ◌*◌, ◌<◌, ◌≤◌, true, cond, List, length, get_or, set, ℤ, pos, ◌+ℤ◌, nat_abs, sym, refl, ap, ◌∙◌, inl, inr, arith, w64, SFits, to_z, of_z}
+use Rattle.std.proofs.Common.{◌≡◌, ℕ, ◌+◌, ◌*◌, ◌<◌, ◌≤◌, ◌⊎◌, true, cond, List, length, get_or, set, ℤ, pos, ◌+ℤ◌, nat_abs, sym, refl, ap, ◌∙◌, inl, inr, arith, w64, SFits, to_z, of_z}
 use Rattle.std.proofs.lemmas.Nat.{mul-add-lt}
-use Rattle.std.proofs.lemmas.List.{get_or-set_same, get_or-set_other}
+use Rattle.std.proofs.lemmas.List.{get_or-set_same, get_or-set_other, get_or_default}
 use Rattle.std.proofs.lemmas.Int.{to_z-of_z}
 use Rattle.std.proofs.lemmas.Bool.{cases_eq, and_parts, ltb-true, cond-true}
 use Rattle.std.proofs.lemmas.Bool.Decides.{nat_tests}
@@ -9,7 +9,9 @@ use Rattle.register.specs.Holdings.{Holdings, the_cap, put, with_free, with_rese
 use Rattle.register.proofs.Changed.{same_holdings}
 use Rattle.register.proofs.Sums.{is_put}
 use Rattle.image.proofs.Places.{cond_same, place_apart}
-use Rattle.movement.specs.Moved.{net, within, moved, Settled, FreeSettled, ReservedSettled}
+use Rattle.movement.specs.Moved.{net, still, free_movement, reserved_movement, within, moved, Settled, FreeSettled, ReservedSettled}
+use Rattle.movement.specs.Inner.{Placed}
+use Rattle.movement.specs.declared.numbers.Movement.{Movement}
 
 pub within_parts : (m n a s : ℕ) → within m n a s ≡ true → (a < m) × (s < n)
 within_parts m n a s e = let p = and_parts _ _ e in (ltb-true a m p.0, ltb-true s n p.1)
@@ -21,80 +23,119 @@ is_within m n a s la ls = grind (arith, nat_tests)
 pub index_below : (m n a s : ℕ) → a < m → s < n → a * n + s < m * n
 index_below m n a s la ls = omega (arith, mul-add-lt a n s m la ls)
 
--- A number p and its movement r, as the code holds them, are settled if they are those of the register.
-pub settled_at : (o p : ℕ) (r : ℤ) (ms : List ℤ) (i j : ℕ) → SFits w64 r → p ≡ o → r ≡ get_or ms i (pos 0) → i ≡ j → Settled o (get_or ms j (pos 0)) → Settled p (to_z w64 (of_z w64 r))
-settled_at o p r ms i j fits e f g st = rw (e, to_z-of_z w64 r fits, f, g) st
-
 -- A movement that makes v of the opening settles it.
-pub settles : (o p v : ℕ) (r : ℤ) → SFits w64 r → p ≡ o → (pos p +ℤ r) ≡ pos v → o ≤ the_cap → v ≤ the_cap → Settled o (to_z w64 (of_z w64 r)) × (net o (to_z w64 (of_z w64 r)) ≡ v)
-settles o p v r fits e made lo lv =
+pub settles : (o p v : ℕ) (r : ℤ) → p ≡ o → (pos p +ℤ r) ≡ pos v → o ≤ the_cap → v ≤ the_cap → Settled o r × (net o r ≡ v)
+settles o p v r e made lo lv =
     let sum : (pos o +ℤ r) ≡ pos v = ap (λ n. pos n +ℤ r) (sym e) ∙ made in
     let n : net o r ≡ v = ap nat_abs sum in
-    rw (to_z-of_z w64 r fits) ((lo, sum ∙ sym (ap pos n), omega arith), n)
+    ((lo, sum ∙ sym (ap pos n), omega arith), n)
 
--- Numbers with the openings f, and their movements at the indexes g.
-module _ (m n : ℕ) (f g : ℕ → ℕ → ℕ) (ms : List ℤ) where
-  abbrev numbers : List ℤ → ℕ → ℕ → ℕ
-  numbers xs b t = cond (within m n b t) (net (f b t) (get_or xs (g b t) (pos 0))) 0
+-- Numbers with the openings f, and a part of each line's movement; the movement y of one line is new.
+module _ (m n : ℕ) (f : ℕ → ℕ → ℕ) (part : Movement → ℤ) (ms : List Movement) (a s : ℕ) (y : Movement) (ls : s < n) (below : a * n + s < length ms) where
+  abbrev numbers : List Movement → ℕ → ℕ → ℕ
+  numbers xs b t = cond (within m n b t) (net (f b t) (part (get_or xs (b * n + t) still))) 0
 
-  module _ (i : ℕ) (z : ℤ) (apart : (b t : ℕ) → within m n b t ≡ true → g b t ≡ i → ⊥) where
-    stays : (b t : ℕ) → numbers (set ms i z) b t ≡ numbers ms b t
-    stays b t = cond_same (within m n b t) (within m n b t) _ _ refl (λ w. ap (net (f b t)) (get_or-set_other ms i (g b t) z (pos 0) (apart b t w)))
+  abbrev after : List Movement
+  after = set ms (a * n + s) y
 
-    settled_stays : (b t : ℕ) → within m n b t ≡ true → Settled (f b t) (get_or ms (g b t) (pos 0)) → Settled (f b t) (get_or (set ms i z) (g b t) (pos 0))
-    settled_stays b t w st = rw (get_or-set_other ms i (g b t) z (pos 0) (apart b t w)) st
+  here : get_or after (a * n + s) still ≡ y
+  here = get_or-set_same ms (a * n + s) y still below
 
-  module _ (a s : ℕ) (z : ℤ) (below : g a s < length ms) (apart : (b t : ℕ) → within m n b t ≡ true → g b t ≡ g a s → (a ≡ b) × (s ≡ t)) where
-    changes : (v : ℕ) → within m n a s ≡ true → net (f a s) z ≡ v → (b t : ℕ) → numbers (set ms (g a s) z) b t ≡ put (numbers ms) a s v b t
-    changes v w e =
-        is_put (numbers ms) (numbers (set ms (g a s) z)) a s v
-        (cond-true _ _ _ w ∙ (ap (net (f a s)) (get_or-set_same ms (g a s) z (pos 0) below) ∙ e))
-        (λ b t ne. cond_same (within m n b t) (within m n b t) _ _ refl (λ u. ap (net (f b t)) (get_or-set_other ms (g a s) (g b t) z (pos 0) (λ p. ne (apart b t u p)))))
+  away : (b t : ℕ) → within m n b t ≡ true → ((a ≡ b) × (s ≡ t) → ⊥) → get_or after (b * n + t) still ≡ get_or ms (b * n + t) still
+  away b t w ne =
+      get_or-set_other ms (a * n + s) (b * n + t) y still (λ e. ne (place_apart n a s b t ls (within_parts m n b t w).1 (sym e)))
 
-    settled_changes : Settled (f a s) z → (b t : ℕ) → within m n b t ≡ true → Settled (f b t) (get_or ms (g b t) (pos 0)) → Settled (f b t) (get_or (set ms (g a s) z) (g b t) (pos 0))
-    settled_changes here b t w st =
-        elim (cases_eq (g b t) (g a s)) [
-          | inl e ↦ let p = apart b t w e in rw (← p.0, ← p.1) (rw (get_or-set_same ms (g a s) z (pos 0) below) here)
-          | inr ne ↦ rw (get_or-set_other ms (g a s) (g b t) z (pos 0) ne) st
-        ]
+  changes : (v : ℕ) → within m n a s ≡ true → net (f a s) (part y) ≡ v → (b t : ℕ) → numbers after b t ≡ put (numbers ms) a s v b t
+  changes v w e =
+      is_put (numbers ms) (numbers after) a s v
+      (cond-true _ _ _ w ∙ (ap (λ x. net (f a s) (part x)) here ∙ e))
+      (λ b t ne. cond_same (within m n b t) (within m n b t) _ _ refl (λ u. ap (λ x. net (f b t) (part x)) (away b t u ne)))
 
-module _ (o : Holdings) (m n a s : ℕ) (ms : List ℤ) (z : ℤ) (len : length ms ≡ 2 * (m * n)) (la : a < m) (ls : s < n) where
-  free_apart : (b t : ℕ) → within m n b t ≡ true → b * n + t ≡ a * n + s → (a ≡ b) × (s ≡ t)
-  free_apart b t w e = place_apart n a s b t ls (within_parts m n b t w).1 (sym e)
+  same_part : part y ≡ part (get_or ms (a * n + s) still) → (k : ℕ) → part (get_or after k still) ≡ part (get_or ms k still)
+  same_part e k =
+      elim (cases_eq k (a * n + s)) [
+        | inl at ↦ rw at (ap part here ∙ e)
+        | inr ne ↦ ap part (get_or-set_other ms (a * n + s) k y still ne)
+      ]
 
-  reserved_apart : (b t : ℕ) → within m n b t ≡ true → m * n + (b * n + t) ≡ m * n + (a * n + s) → (a ≡ b) × (s ≡ t)
-  reserved_apart b t w e = free_apart b t w (omega arith)
+  stays : part y ≡ part (get_or ms (a * n + s) still) → (b t : ℕ) → numbers after b t ≡ numbers ms b t
+  stays e b t = cond_same (within m n b t) (within m n b t) _ _ refl (λ w. ap (net (f b t)) (same_part e (b * n + t)))
 
-  not_free : (b t : ℕ) → within m n b t ≡ true → b * n + t ≡ m * n + (a * n + s) → ⊥
-  not_free b t w e = let p = within_parts m n b t w in omega (arith, index_below m n b t p.0 p.1)
+  settled_changes : Settled (f a s) (part y) → (b t : ℕ) → within m n b t ≡ true → Settled (f b t) (part (get_or ms (b * n + t) still)) → Settled (f b t) (part (get_or after (b * n + t) still))
+  settled_changes st b t w old =
+      elim (cases_eq (b * n + t) (a * n + s)) [
+        | inl e ↦ let p = place_apart n a s b t ls (within_parts m n b t w).1 (sym e) in rw (← p.0, ← p.1) (rw here st)
+        | inr ne ↦ rw (get_or-set_other ms (a * n + s) (b * n + t) y still ne) old
+      ]
 
-  not_reserved : (b t : ℕ) → within m n b t ≡ true → m * n + (b * n + t) ≡ a * n + s → ⊥
-  not_reserved b t w e = omega (arith, index_below m n a s la ls)
+  settled_stays : part y ≡ part (get_or ms (a * n + s) still) → (b t : ℕ) → Settled (f b t) (part (get_or ms (b * n + t) still)) → Settled (f b t) (part (get_or after (b * n + t) still))
+  settled_stays e b t old = rw (same_part e (b * n + t)) old
 
-  pub free_index : a * n + s < length ms
-  free_index = omega (arith, index_below m n a s la ls)
+-- The line (a, s) of an opening o, with the movement q at its index i.
+module _ (o : Holdings) (m n a s i : ℕ) (ms : List Movement) (q : Movement) (len : length ms ≡ m * n) (p : Placed m n a s i) (read : q ≡ get_or ms i q) where
+  fits : a * n + s < length ms
+  fits = omega (arith, p.index, p.below)
 
-  pub reserved_index : m * n + (a * n + s) < length ms
-  reserved_index = omega (arith, index_below m n a s la ls)
+  inside : within m n a s ≡ true
+  inside = is_within m n a s p.account p.security
 
-  pub moved_free : (v : ℕ) → net (o.free a s) z ≡ v → moved o m n (set ms (a * n + s) z) ≡ with_free (moved o m n ms) a s v
-  moved_free v e =
-      same_holdings (moved o m n (set ms (a * n + s) z)) (with_free (moved o m n ms) a s v) refl refl
-      (changes m n o.free (λ b t. b * n + t) ms a s z free_index free_apart v (is_within m n a s la ls) e)
-      (stays m n o.reserved (λ b t. m * n + (b * n + t)) ms (a * n + s) z not_reserved)
+  at : q ≡ get_or ms (a * n + s) still
+  at = read ∙ (get_or_default ms i q still (omega (arith, p.below)) ∙ ap (λ j. get_or ms j still) p.index)
 
-  pub moved_reserved : (v : ℕ) → net (o.reserved a s) z ≡ v → moved o m n (set ms (m * n + (a * n + s)) z) ≡ with_reserved (moved o m n ms) a s v
-  moved_reserved v e =
-      same_holdings (moved o m n (set ms (m * n + (a * n + s)) z)) (with_reserved (moved o m n ms) a s v) refl refl
-      (stays m n o.free (λ b t. b * n + t) ms (m * n + (a * n + s)) z not_free)
-      (changes m n o.reserved (λ b t. m * n + (b * n + t)) ms a s z reserved_index reserved_apart v (is_within m n a s la ls) e)
+  -- Its movements, as the code holds them, are settled.
+  pub free_read : (k : ℕ) → k ≡ o.free a s → SFits w64 q.free → FreeSettled o m n ms → Settled k (to_z w64 (of_z w64 q.free))
+  free_read k e sf free = rw (e, to_z-of_z w64 q.free sf, ap (λ (x : Movement). x.free) at) (free (a, s) inside)
 
-  -- A free number's movement leaves all numbers settled, and so does a reserved number's.
-  module _ (free : FreeSettled o m n ms) (reserved : ReservedSettled o m n ms) where
-    pub settled_free : Settled (o.free a s) z → FreeSettled o m n (set ms (a * n + s) z) × ReservedSettled o m n (set ms (a * n + s) z)
-    settled_free st =
-        (λ l w. settled_changes m n o.free (λ b t. b * n + t) ms a s z free_index free_apart st l.0 l.1 w (free l w), λ l w. settled_stays m n o.reserved (λ b t. m * n + (b * n + t)) ms (a * n + s) z not_reserved l.0 l.1 w (reserved l w))
+  pub reserved_read : (k : ℕ) → k ≡ o.reserved a s → SFits w64 q.reserved → ReservedSettled o m n ms → Settled k (to_z w64 (of_z w64 q.reserved))
+  reserved_read k e sf reserved = rw (e, to_z-of_z w64 q.reserved sf, ap (λ (x : Movement). x.reserved) at) (reserved (a, s) inside)
 
-    pub settled_reserved : Settled (o.reserved a s) z → FreeSettled o m n (set ms (m * n + (a * n + s)) z) × ReservedSettled o m n (set ms (m * n + (a * n + s)) z)
-    settled_reserved st =
-        (λ l w. settled_stays m n o.free (λ b t. b * n + t) ms (m * n + (a * n + s)) z not_free l.0 l.1 w (free l w), λ l w. settled_changes m n o.reserved (λ b t. m * n + (b * n + t)) ms a s z reserved_index reserved_apart st l.0 l.1 w (reserved l w))
+  -- The movement z makes v of the number k of the opening.
+  module _ (z : ℤ) (k v : ℕ) (sf : SFits w64 z) (made : (pos k +ℤ z) ≡ pos v) (lv : v ≤ the_cap) where
+    abbrev pub free_moves : Movement
+    free_moves = record { free = to_z w64 (of_z w64 z); reserved = q.reserved }
+
+    abbrev pub reserved_moves : Movement
+    reserved_moves = record { free = q.free; reserved = to_z w64 (of_z w64 z) }
+
+    settled : (x : ℕ) → k ≡ x → x ≤ the_cap → Settled x (to_z w64 (of_z w64 z)) × (net x (to_z w64 (of_z w64 z)) ≡ v)
+    settled x e lx = rw (to_z-of_z w64 z sf) (settles x k v z e made lx lv)
+
+    pub moved_free : k ≡ o.free a s → o.free a s ≤ the_cap → moved o m n (set ms i free_moves) ≡ with_free (moved o m n ms) a s v
+    moved_free e lx =
+        rw p.index (same_holdings (moved o m n (set ms (a * n + s) free_moves)) (with_free (moved o m n ms) a s v) refl refl
+        (changes m n o.free (λ x. x.free) ms a s free_moves p.security fits v inside (settled (o.free a s) e lx).1)
+        (stays m n o.reserved (λ x. x.reserved) ms a s free_moves p.security fits (ap (λ (x : Movement). x.reserved) at)))
+
+    pub moved_reserved : k ≡ o.reserved a s → o.reserved a s ≤ the_cap → moved o m n (set ms i reserved_moves) ≡ with_reserved (moved o m n ms) a s v
+    moved_reserved e lx =
+        rw p.index (same_holdings (moved o m n (set ms (a * n + s) reserved_moves)) (with_reserved (moved o m n ms) a s v) refl refl
+        (stays m n o.free (λ x. x.free) ms a s reserved_moves p.security fits (ap (λ (x : Movement). x.free) at))
+        (changes m n o.reserved (λ x. x.reserved) ms a s reserved_moves p.security fits v inside (settled (o.reserved a s) e lx).1))
+
+    -- A free number's movement leaves all numbers settled, and so does a reserved number's.
+    module _ (free : FreeSettled o m n ms) (reserved : ReservedSettled o m n ms) where
+      pub settled_free : k ≡ o.free a s → o.free a s ≤ the_cap → FreeSettled o m n (set ms i free_moves) × ReservedSettled o m n (set ms i free_moves)
+      settled_free e lx =
+          rw p.index (
+            λ l w. settled_changes m n o.free (λ x. x.free) ms a s free_moves p.security fits (settled (o.free a s) e lx).0 l.0 l.1 w (free l w),
+            λ l w. settled_stays m n o.reserved (λ x. x.reserved) ms a s free_moves p.security fits (ap (λ (x : Movement). x.reserved) at) l.0 l.1 (reserved l w),
+          )
+
+      pub settled_reserved : k ≡ o.reserved a s → o.reserved a s ≤ the_cap → FreeSettled o m n (set ms i reserved_moves) × ReservedSettled o m n (set ms i reserved_moves)
+      settled_reserved e lx =
+          rw p.index (
+            λ l w. settled_stays m n o.free (λ x. x.free) ms a s reserved_moves p.security fits (ap (λ (x : Movement). x.free) at) l.0 l.1 (free l w),
+            λ l w. settled_changes m n o.reserved (λ x. x.reserved) ms a s reserved_moves p.security fits (settled (o.reserved a s) e lx).0 l.0 l.1 w (reserved l w),
+          )
+
+-- What a setting asks keeps the new number within the cap.
+module _ (o : Holdings) (m n a s v : ℕ) (ms : List Movement) (la : a < m) (ls : s < n) where
+  pub free_bound : FreeSettled o m n ms → (v ≤ (moved o m n ms).free a s) ⊎ (v ≤ the_cap) → v ≤ the_cap
+  free_bound free h =
+      let w = is_within m n a s la ls in
+      elim h [ inl le ↦ omega (arith, cond-true (within m n a s) (net (o.free a s) (free_movement n ms a s)) 0 w, (free (a, s) w).2) | inr le ↦ le ]
+
+  pub reserved_bound : ReservedSettled o m n ms → (v ≤ (moved o m n ms).reserved a s) ⊎ (v ≤ the_cap) → v ≤ the_cap
+  reserved_bound reserved h =
+      let w = is_within m n a s la ls in
+      elim h [ inl le ↦ omega (arith, cond-true (within m n a s) (net (o.reserved a s) (reserved_movement n ms a s)) 0 w, (reserved (a, s) w).2) | inr le ↦ le ]

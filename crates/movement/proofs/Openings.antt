@@ -1,20 +1,30 @@
 -- What an opening is found to be, and what a register holds with no movement yet.
-use Rattle.std.proofs.Common.{◌≡◌, ℕ, ◌+◌, ◌*◌, ◌<◌, ◌≤◌, true, false, List, get_or, replicate, ℤ, pos, ◌+ℤ◌, nat_abs, Decides, sym, refl, ap, ◌∙◌, inl, inr, arith}
+use Rattle.std.proofs.Common.{◌≡◌, ℕ, ◌+◌, ◌*◌, ◌<◌, ◌≤◌, Bool, true, false, MatchBool, List, [], length, get_or, replicate, ℤ, pos, ◌+ℤ◌, nat_abs, Decides, sym, refl, ap, subst, ◌∙◌, zero-add, inl, inr, arith}
 use lib.IntN.{+ℤ_idr}
 use Rattle.std.proofs.lemmas.List.{get_or-replicate, get_or_past, length-replicate}
-use Rattle.std.proofs.lemmas.Bool.{cases_Bool, cases_lt, and_left, cond-false, cond-true, le-ltb}
+use Rattle.std.specs.List.{range_with_len, AllWithin, HoldsAt}
+use Rattle.std.proofs.lemmas.List.FromFn.{get_or-range_with_len, length-range_with_len}
+use Rattle.std.proofs.lemmas.Bool.{cases_Bool, cases_lt, cond-false, cond-true}
 use Rattle.register.specs.Holdings.{Holdings, Inside, the_cap}
 use Rattle.register.proofs.Changed.{same_holdings}
-use Rattle.movement.specs.Moved.{net, within, moved, Settled, FreeSettled, ReservedSettled}
-use Rattle.movement.specs.Opening.{AccountFits, nothing, Opened}
-use Rattle.movement.specs.Inner.{Taken}
-use Rattle.movement.proofs.Movements.{within_parts, is_within}
+use Rattle.image.specs.Image.{imaged}
+use Rattle.image.specs.Zero.{imaged_outside}
+use Rattle.movement.specs.Moved.{net, still, within, moved, Settled, FreeSettled, ReservedSettled}
+use Rattle.movement.specs.declared.numbers.Movement.{Movement}
+use Rattle.movement.specs.Opening.{AccountFits, Acceptable, nothing}
+use Rattle.movement.proofs.Movements.{is_within}
 
-pub decides_all : (P : Type 0) → P → Decides true P
-decides_all P p = (λ _. p, λ _. refl)
+-- What decides a fact decides one that says the same.
+pub decides_same : (r : Bool) (P Q : Type 0) → (P → Q) → (Q → P) → Decides r P → Decides r Q
+decides_same r P Q to from d = (λ e. to (d.0 e), λ q. d.1 (from q))
 
-pub decides_none : (P : Type 0) → (P → ⊥) → Decides false P
-decides_none P no_p = (λ e. absurd (let z : ◌≡◌ {A = ℕ} 0 1 = cc in omega arith), λ p. absurd (no_p p))
+-- A test of all numbers below n decides whether what it tests holds of each.
+pub decides_below : (n : ℕ) (P : ℕ → Type 0) (r : Bool) → MatchBool r (AllWithin P (range_with_len 0 n) 0 (length (range_with_len 0 n))) ((k : ℕ) × (k < length (range_with_len 0 n)) × HoldsAt (λ s. P s → ⊥) (range_with_len 0 n) k) → Decides r ((s : ℕ) → s < n → P s)
+decides_below n P true all =
+    (λ _ s lt. subst P (get_or-range_with_len 0 n s 0 lt ∙ zero-add s) (all s 0 (omega arith) (omega (arith, length-range_with_len 0 n))), λ _. refl)
+decides_below n P false some =
+    let lt : some.0 < n = omega (arith, length-range_with_len 0 n, some.1) in
+    (λ e. absurd (let z : ◌≡◌ {A = ℕ} 0 1 = cc in omega arith), λ all. absurd (some.2 0 (subst P (sym (get_or-range_with_len 0 n some.0 0 lt ∙ zero-add some.0)) (all some.0 lt))))
 
 -- A line outside the counts of o has no shares.
 module _ (o : Holdings) (outside : (a s : ℕ) → (Inside o a s → ⊥) → (o.free a s ≡ 0) × (o.reserved a s ≡ 0)) where
@@ -30,54 +40,52 @@ module _ (o : Holdings) (outside : (a s : ℕ) → (Inside o a s → ⊥) → (o
       elim (cases_lt a o.accounts) [ inl lt ↦ below a lt s | inr le ↦ small_outside a s (λ p. omega arith) ]
 
   -- With no movement yet a register holds what it was opened with.
-  module _ (m n : ℕ) (ms : List ℤ) (zeros : (k : ℕ) → get_or ms k (pos 0) ≡ pos 0) (t : Taken o m n) where
-    start : (x k : ℕ) → net x (get_or ms k (pos 0)) ≡ x
-    start x k = ap nat_abs (ap (λ y. pos x +ℤ y) (zeros k) ∙ +ℤ_idr (pos x))
+  module _ (ms : List Movement) (zeros : (k : ℕ) → get_or ms k still ≡ still) where
+    start : (part : Movement → ℤ) → part still ≡ pos 0 → (x k : ℕ) → net x (part (get_or ms k still)) ≡ x
+    start part none x k = ap (λ y. nat_abs (pos x +ℤ part y)) (zeros k) ∙ (ap (λ z. nat_abs (pos x +ℤ z)) none ∙ ap nat_abs (+ℤ_idr (pos x)))
 
-    settled_start : (x k : ℕ) → x ≤ the_cap → Settled x (get_or ms k (pos 0))
-    settled_start x k le =
-        (le, ap (λ y. pos x +ℤ y) (zeros k) ∙ (+ℤ_idr (pos x) ∙ ap pos (sym (start x k))), omega (arith, start x k))
+    settled_start : (part : Movement → ℤ) → part still ≡ pos 0 → (x k : ℕ) → x ≤ the_cap → Settled x (part (get_or ms k still))
+    settled_start part none x k le =
+        (le, ap (λ y. pos x +ℤ part y) (zeros k) ∙ (ap (λ z. pos x +ℤ z) none ∙ (+ℤ_idr (pos x) ∙ ap pos (sym (start part none x k)))), omega (arith, start part none x k))
 
-    pub free_start : FreeSettled o m n ms
-    free_start l w =
-        let p = within_parts m n l.0 l.1 w in
-        settled_start (o.free l.0 l.1) (l.0 * n + l.1) (t.small l.0 l.1 p.0 p.1).0
+    pub free_start : Acceptable o → FreeSettled o o.accounts o.securities ms
+    free_start fit l w = settled_start (λ x. x.free) refl (o.free l.0 l.1) (l.0 * o.securities + l.1) (fit.2 l.0 l.1).0
 
-    pub reserved_start : ReservedSettled o m n ms
-    reserved_start l w =
-        let p = within_parts m n l.0 l.1 w in
-        settled_start (o.reserved l.0 l.1) (m * n + (l.0 * n + l.1)) (t.small l.0 l.1 p.0 p.1).1
+    pub reserved_start : Acceptable o → ReservedSettled o o.accounts o.securities ms
+    reserved_start fit l w = settled_start (λ x. x.reserved) refl (o.reserved l.0 l.1) (l.0 * o.securities + l.1) (fit.2 l.0 l.1).1
 
-    out : (a s : ℕ) → m ≡ o.accounts → n ≡ o.securities → within m n a s ≡ false → Inside o a s → ⊥
-    out a s em en e p =
-        let w = is_within m n a s (omega arith) (omega arith) in
+    out : (a s : ℕ) → within o.accounts o.securities a s ≡ false → Inside o a s → ⊥
+    out a s e p =
+        let w = is_within o.accounts o.securities a s p.0 p.1 in
         let z : ◌≡◌ {A = ℕ} 0 1 = cc in
         omega arith
 
-    pub opened_start : Opened o (moved o m n ms)
-    opened_start =
-        record {
-          accepted = λ ok.
-              let em = (t.accepted ok).0 in
-              let en = (t.accepted ok).1 in
-              same_holdings (moved o m n ms) o em en
-              (λ a s. elim (cases_Bool (within m n a s)) [
-                | inl w ↦ cond-true _ _ _ w ∙ start (o.free a s) (a * n + s)
-                | inr w ↦ cond-false _ _ _ w ∙ sym (outside a s (out a s em en w)).0
-              ])
-              (λ a s. elim (cases_Bool (within m n a s)) [
-                | inl w ↦ cond-true _ _ _ w ∙ start (o.reserved a s) (m * n + (a * n + s))
-                | inr w ↦ cond-false _ _ _ w ∙ sym (outside a s (out a s em en w)).1
-              ]);
-          unfit = λ bad.
-              let em = (t.unfit bad).0 in
-              let none : (a s : ℕ) → within m n a s ≡ false = λ a s. and_left _ _ (le-ltb a m (omega arith)) in
-              same_holdings (moved o m n ms) nothing em (t.unfit bad).1 (λ a s. cond-false _ _ _ (none a s)) (λ a s. cond-false _ _ _ (none a s));
-        }
+    pub moved_start : moved o o.accounts o.securities ms ≡ o
+    moved_start =
+        same_holdings (moved o o.accounts o.securities ms) o refl refl
+        (λ a s. elim (cases_Bool (within o.accounts o.securities a s)) [
+          | inl w ↦ cond-true _ _ _ w ∙ start (λ x. x.free) refl (o.free a s) (a * o.securities + s)
+          | inr w ↦ cond-false _ _ _ w ∙ sym (outside a s (out a s w)).0
+        ])
+        (λ a s. elim (cases_Bool (within o.accounts o.securities a s)) [
+          | inl w ↦ cond-true _ _ _ w ∙ start (λ x. x.reserved) refl (o.reserved a s) (a * o.securities + s)
+          | inr w ↦ cond-false _ _ _ w ∙ sym (outside a s (out a s w)).1
+        ])
 
-pub all_zero : (ms : List ℤ) (size : ℕ) → ms ≡ replicate size (pos 0) → (k : ℕ) → get_or ms k (pos 0) ≡ pos 0
+pub all_zero : (ms : List Movement) (size : ℕ) → ms ≡ replicate size still → (k : ℕ) → get_or ms k still ≡ still
 all_zero ms size e k =
-    ap (λ l. get_or l k (pos 0)) e ∙ elim (cases_lt k size) [
-      | inl lt ↦ get_or-replicate size k (pos 0) (pos 0) lt
-      | inr le ↦ get_or_past (replicate size (pos 0)) k (pos 0) (omega (arith, length-replicate size (pos 0)))
+    ap (λ l. get_or l k still) e ∙ elim (cases_lt k size) [
+      | inl lt ↦ get_or-replicate size k still still lt
+      | inr le ↦ get_or_past (replicate size still) k still (omega (arith, length-replicate size still))
     ]
+
+-- An image of no bytes holds nothing.
+pub no_bytes : imaged [] ≡ nothing
+unfolding imaged
+no_bytes =
+    same_holdings (imaged []) nothing refl refl
+    (λ a s. (imaged_outside [] a s (λ p. omega arith)).0)
+    (λ a s. (imaged_outside [] a s (λ p. omega arith)).1)
+
+pub nothing_fits : Acceptable nothing
+nothing_fits = (omega arith, omega arith, λ a s. (omega arith, omega arith))

@@ -3,11 +3,17 @@ ghost use Rattle.std.specs.Prelude.{◌≡◌, ◌≤◌, pos, ◌+ℤ◌};
 ghost use Rattle.register.specs.Holdings.{the_cap};
 ghost use Rattle.movement.specs.Moved.{Settled, net};
 
+// What became of the two numbers of a line since the opening.
+#[derive(Clone, Copy)]
+pub(crate) struct Movement {
+    pub(crate) free: i64,
+    pub(crate) reserved: i64,
+}
+
 // A number after its movement.
 pub(crate) fn after(opening: u64, movement: i64) -> u64
     requires { Settled opening movement }
-    ensures value { result ≡ net opening movement }
-    ensures bound { result ≤ the_cap }
+    ensures { result ≡ net opening movement }
 {
     (opening as i64 + movement) as u64
 }

@@ -1,8 +1,7 @@
 //! Whether an opening can be taken.
 ghost use Rattle.std.specs.Prelude.{Decides};
 ghost use Rattle.image.specs.View.{image_of};
-ghost use Rattle.movement.specs.Inner.{Taken};
-ghost use Rattle.movement.specs.Opening.{Acceptable, AccountFits};
+ghost use Rattle.movement.specs.Opening.{Acceptable, AccountFits, Opened};
 
 use image::Image;
 use register::CAP;
@@ -17,12 +16,9 @@ pub const MAX_SECURITIES: usize = 16;
 fn account_fits(opening: Image, account: usize) -> bool
     ensures { Decides result (AccountFits (image_of opening.entry) account) }
 {
-    for security in 0..opening.securities() {
-        if opening.free(account, security) > CAP || opening.reserved(account, security) > CAP {
-            return false;
-        }
-    }
-    true
+    (0..opening.securities()).all(|security| {
+        opening.free(account, security) <= CAP && opening.reserved(account, security) <= CAP
+    })
 }
 
 // Whether the opening has few enough accounts and securities, and no number over the cap.
@@ -32,21 +28,17 @@ fn acceptable(opening: Image) -> bool
     if opening.accounts() > MAX_ACCOUNTS || opening.securities() > MAX_SECURITIES {
         return false;
     }
-    for account in 0..opening.accounts() {
-        if !account_fits(opening, account) {
-            return false;
-        }
-    }
-    true
+    (0..opening.accounts()).all(|account| account_fits(opening, account))
 }
 
-// The counts of an opening, or 0 and 0 where it is not acceptable.
-pub(crate) fn opening_counts(opening: Image) -> (usize, usize)
-    ensures { Taken (image_of opening.entry) result.0 result.1 }
+// The opening where it is acceptable, and otherwise one with no lines.
+pub(crate) fn taken(opening: Image) -> Image
+    ensures opened { Opened (image_of opening.entry) (image_of result) }
+    ensures acceptable { Acceptable (image_of result) }
 {
     if acceptable(opening) {
-        (opening.accounts(), opening.securities())
+        opening
     } else {
-        (0, 0)
+        Image::new(&[])
     }
 }

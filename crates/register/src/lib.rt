@@ -4,6 +4,7 @@
 ghost use Rattle.std.specs.Prelude.{◌≡◌};
 ghost use Rattle.register.specs.Holdings.{Changes, Creditable, Debitable, Frame, Holdable, Holdings, Outside, Releasable, credited, debited, held, released};
 
+pub mod changes;
 pub mod theorems;
 
 /// No number is raised above this many shares.

@@ -1,7 +1,8 @@
 -- Lists of changes: one more change, and two runs from the same holdings.
-use Rattle.std.proofs.Common.{◌≡◌, ℕ, ◌+◌, ◌<◌, Bool, true, false, List, [], ◌∷◌, ◌++◌, length, get_or, take, set, MatchBool, sym, refl, ap, ◌∙◌, subst}
+use Rattle.std.proofs.Common.{◌≡◌, ℕ, ◌+◌, ◌<◌, List, [], ◌∷◌, ◌++◌, length, get_or, take, set, Result, Ok, Err, sym, refl, ap, ◌∙◌, subst}
 use Rattle.std.proofs.lemmas.List.{take_more, take_more_set}
-use Rattle.register.specs.Holdings.{Holdings}
+use Rattle.register.specs.Holdings.{Holdings, Changes}
+use Rattle.register.specs.declared.Refused.{Refused}
 use Rattle.registers.specs.Changes.{Allowed, Answered, changed, line_of}
 use Rattle.registers.specs.Lists.{Runs}
 use Rattle.registers.specs.declared.changes.Answer.{Answer}
@@ -23,18 +24,18 @@ pub runs_more : (h i k : Holdings) (xs : List Change) (rs : List Answer) (n : �
 runs_more h i k xs rs n d r lx lr run a =
     rw (take_more xs n d lx, take_more_set rs n r lr) (runs_push h i k (take n xs) (take n rs) (get_or xs n d) r run a)
 
-outcome_alike : (P : Type 0) (a b : Bool) (h i j y : Holdings) → MatchBool a (P × (i ≡ y)) ((P → ⊥) × (i ≡ h)) → MatchBool b (P × (j ≡ y)) ((P → ⊥) × (j ≡ h)) → (a ≡ b) × (i ≡ j)
-outcome_alike P true true h i j y p q = (refl, p.1 ∙ sym q.1)
-outcome_alike P true false h i j y p q = absurd (q.0 p.0)
-outcome_alike P false true h i j y p q = absurd (p.0 q.0)
-outcome_alike P false false h i j y p q = (refl, p.1 ∙ sym q.1)
+outcome_alike : (P : Type 0) (a b : Result (Unit {0}) Refused) (h i j y : Holdings) → Changes a P h y i → Changes b P h y j → (a ≡ b) × (i ≡ j)
+outcome_alike P (Ok u) (Ok v) h i j y p q = (refl, p.1 ∙ sym q.1)
+outcome_alike P (Ok u) (Err f) h i j y p q = absurd (q.0 p.0)
+outcome_alike P (Err e) (Ok v) h i j y p q = absurd (p.0 q.0)
+outcome_alike P (Err e) (Err f) h i j y p q = (refl, p.1 ∙ sym q.1)
 
-same_answer : (r q : Answer) → r.accepted ≡ q.accepted → r.free ≡ q.free → r.reserved ≡ q.reserved → r ≡ q
-same_answer r q e f g = λ i. record { accepted = e i; free = f i; reserved = g i }
+same_answer : (r q : Answer) → r.outcome ≡ q.outcome → r.free ≡ q.free → r.reserved ≡ q.reserved → r ≡ q
+same_answer r q e f g = λ i. record { outcome = e i; free = f i; reserved = g i }
 
 answered_alike : (h i j : Holdings) (x : Change) (r q : Answer) → Answered h x r i → Answered h x q j → (r ≡ q) × (i ≡ j)
 answered_alike h i j x r q a b =
-    let e = outcome_alike (Allowed x h) r.accepted q.accepted h i j (changed x h) a.outcome b.outcome in
+    let e = outcome_alike (Allowed x h) r.outcome q.outcome h i j (changed x h) a.outcome b.outcome in
     let l = line_of x in (
       same_answer r q e.0
           (a.free ∙ (ap (λ (k : Holdings). k.free l.account l.security) e.1 ∙ sym b.free))

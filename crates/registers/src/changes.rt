@@ -1,8 +1,9 @@
 //! Changes as values, and what a register answers to one.
 ghost use Rattle.std.specs.Prelude.{◌≡◌};
-ghost use Rattle.registers.specs.Changes.{Answered, line_of};
+ghost use Rattle.registers.specs.Changes.{Answered};
 
-use register::Register;
+use register::{Refused, Register};
+use std::fmt;
 
 /// One account with one security.
 #[derive(Clone, Copy)]
@@ -11,32 +12,65 @@ pub struct Line {
     pub security: usize,
 }
 
+/// What a change makes of a line.
+#[derive(Clone, Copy)]
+pub enum Kind {
+    Credit,
+    Debit,
+    Hold,
+    Release,
+}
+
 /// A change of a line by a number of shares.
 #[derive(Clone, Copy)]
-pub enum Change {
-    Credit(Line, u64),
-    Debit(Line, u64),
-    Hold(Line, u64),
-    Release(Line, u64),
+pub struct Change {
+    pub kind: Kind,
+    pub line: Line,
+    pub shares: u64,
 }
 
 /// Whether a change was accepted, and what its line holds afterwards.
 #[derive(Clone, Copy, PartialEq, Eq)]
 pub struct Answer {
-    pub accepted: bool,
+    pub outcome: Result<(), Refused>,
     pub free: u64,
     pub reserved: u64,
 }
 
-/// The line that a change is of.
-pub fn line_of(change: Change) -> Line
-    ensures { result ≡ line_of change }
-{
-    match change {
-        Change::Credit(line, _) => line,
-        Change::Debit(line, _) => line,
-        Change::Hold(line, _) => line,
-        Change::Release(line, _) => line,
+impl fmt::Display for Line {
+    fn fmt<W: fmt::Write>(&self, f: &mut fmt::Formatter<W>) -> fmt::Result {
+        write!(f, "{}/{}", self.account, self.security)
+    }
+}
+
+impl fmt::Display for Kind {
+    fn fmt<W: fmt::Write>(&self, f: &mut fmt::Formatter<W>) -> fmt::Result {
+        f.write_str(match self {
+            Kind::Credit => "credit",
+            Kind::Debit => "debit",
+            Kind::Hold => "hold",
+            Kind::Release => "release",
+        })
+    }
+}
+
+impl fmt::Display for Change {
+    fn fmt<W: fmt::Write>(&self, f: &mut fmt::Formatter<W>) -> fmt::Result {
+        write!(f, "{} {} at {}", self.kind, self.shares, self.line)
+    }
+}
+
+impl fmt::Display for Answer {
+    fn fmt<W: fmt::Write>(&self, f: &mut fmt::Formatter<W>) -> fmt::Result {
+        let outcome = match self.outcome {
+            Ok(()) => "accepted",
+            Err(Refused) => "refused",
+        };
+        write!(
+            f,
+            "{outcome}, free {}, reserved {}",
+            self.free, self.reserved
+        )
     }
 }
 
@@ -45,15 +79,16 @@ pub fn put<R: Register>(register: &mut R, change: Change) -> Answer
     ensures answer { Answered (R.holdings register.old) change result (R.holdings register.new) }
     ensures frame { R.frame register.new ≡ R.frame register.old }
 {
-    let outcome = match change {
-        Change::Credit(line, shares) => register.credit(line.account, line.security, shares),
-        Change::Debit(line, shares) => register.debit(line.account, line.security, shares),
-        Change::Hold(line, shares) => register.hold(line.account, line.security, shares),
-        Change::Release(line, shares) => register.release(line.account, line.security, shares),
+    let Change { kind, line, shares } = change;
+    let Line { account, security } = line;
+    let outcome = match kind {
+        Kind::Credit => register.credit(account, security, shares),
+        Kind::Debit => register.debit(account, security, shares),
+        Kind::Hold => register.hold(account, security, shares),
+        Kind::Release => register.release(account, security, shares),
     };
-    let Line { account, security } = line_of(change);
     Answer {
-        accepted: outcome.is_ok(),
+        outcome,
         free: register.free(account, security),
         reserved: register.reserved(account, security),
     }

@@ -6,7 +6,7 @@ ghost use Rattle.registers.specs.Lists.{Runs};
 use crate::changes::{Answer, Change, put};
 use crate::samples::COUNT;
 use image::ImageRegister;
-use register::Register;
+use register::{Refused, Register};
 
 /// Puts each change to the register, one after the other.
 pub fn put_all<R: Register>(register: &mut R, changes: &[Change; COUNT]) -> [Answer; COUNT]
@@ -14,13 +14,15 @@ pub fn put_all<R: Register>(register: &mut R, changes: &[Change; COUNT]) -> [Ans
     ensures frame { R.frame register.new ≡ R.frame register.old }
 {
     let none = Answer {
-        accepted: false,
+        outcome: Err(Refused),
         free: 0,
         reserved: 0,
     };
     let mut answers = [none; COUNT];
-    for i in 0..COUNT {
-        answers[i] = put(register, changes[i]);
+
+    // A `map` over the changes would promise nothing of the register that its closure changes.
+    for (i, change) in changes.iter().enumerate() {
+        answers[i] = put(register, *change);
     }
     answers
 }

@@ -5,62 +5,25 @@ mod changes;
 mod lists;
 mod samples;
 
-use changes::{Answer, Change, Line, line_of};
+use changes::{Answer, Change, Line};
 use image::{Image, ImageRegister};
 use lists::{put_both, put_to_bytes};
 use movement::MovementRegister;
 use register::Register;
-use samples::{CHANGES, COUNT, OPENING};
-
-fn verb_of(change: Change) -> &'static str {
-    match change {
-        Change::Credit(..) => "credit",
-        Change::Debit(..) => "debit",
-        Change::Hold(..) => "hold",
-        Change::Release(..) => "release",
-    }
-}
-
-fn shares_of(change: Change) -> u64 {
-    match change {
-        Change::Credit(_, shares) => shares,
-        Change::Debit(_, shares) => shares,
-        Change::Hold(_, shares) => shares,
-        Change::Release(_, shares) => shares,
-    }
-}
-
-fn outcome_of(answer: Answer) -> &'static str {
-    if answer.accepted {
-        "accepted"
-    } else {
-        "refused"
-    }
-}
+use samples::{CHANGES, OPENING};
 
 fn print_change(
     rt: &HostRuntime,
-    change: Change,
-    first: Answer,
-    second: Answer,
+    change: &Change,
+    first: &Answer,
+    second: &Answer,
 ) -> anyhow::Result<()> {
-    let verb = verb_of(change);
-    let Line { account, security } = line_of(change);
-    let shares = shares_of(change);
-    println!(rt; "{verb} {shares} at {account}/{security}")?;
-    print_answer(rt, "image", first)?;
-    print_answer(rt, "movement", second)?;
+    println!(rt; "{change}")?;
+    println!(rt; "  image: {first}")?;
+    println!(rt; "  movement: {second}")?;
     if first != second {
         println!(rt; "  THEY DIFFER")?;
     }
-    Ok(())
-}
-
-fn print_answer(rt: &HostRuntime, name: &str, answer: Answer) -> anyhow::Result<()> {
-    let outcome = outcome_of(answer);
-    let free = answer.free;
-    let reserved = answer.reserved;
-    println!(rt; "  {name}: {outcome}, free {free}, reserved {reserved}")?;
     Ok(())
 }
 
@@ -70,7 +33,8 @@ fn print_numbers<R: Register>(rt: &HostRuntime, name: &str, register: &R) -> any
         for security in 0..register.securities() {
             let free = register.free(account, security);
             let reserved = register.reserved(account, security);
-            println!(rt; "  {account}/{security}: free {free}, reserved {reserved}")?;
+            let line = Line { account, security };
+            println!(rt; "  {line}: free {free}, reserved {reserved}")?;
         }
     }
     Ok(())
@@ -82,8 +46,8 @@ fn run(rt: &HostRuntime) -> anyhow::Result<()> {
     let mut bytes = OPENING;
     let mut image = ImageRegister::new(&mut bytes);
     let (first, second) = put_both(&mut image, &mut movement, &CHANGES);
-    for i in 0..COUNT {
-        print_change(rt, CHANGES[i], first[i], second[i])?;
+    for ((change, first), second) in CHANGES.iter().zip(&first).zip(&second) {
+        print_change(rt, change, first, second)?;
     }
     print_numbers(rt, "image", &image)?;
     print_numbers(rt, "movement", &movement)?;

@@ -1,6 +1,0 @@
-use Rattle.image.specs.Image.{imaged}
-use Rattle.image.proofs.lines.securities_in.Goals as goal
-
-pub returns : goal.returns
-unfolding imaged
-returns c = c.counts_in.ensures.securities
