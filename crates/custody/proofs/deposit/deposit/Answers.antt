@@ -1,6 +1,5 @@
-use Rattle.std.proofs.Common.{arith, rules}
+use Rattle.std.proofs.Common.{rules}
 use Rattle.definitions.proofs.Keeping.{sound_credited, room_on_line}
-use Rattle.custody.proofs.Adding.{total_is}
 use Rattle.custody.proofs.Changed.{accepted, sound_asked}
 use Rattle.custody.proofs.deposit.deposit.Goals as goal
 
