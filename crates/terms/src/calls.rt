@@ -54,25 +54,25 @@ pub enum Answer {
     Suspensions(u64),
 }
 
-/// Why a call is refused: the first question that was answered by no.
-#[derive(Clone, Copy)]
+/// Why a call is refused: the first question that was answered by no, by the question's number.
+#[derive(Clone, Copy, PartialEq, Eq)]
 pub enum Refusal {
-    Unopened,
-    Unknown,
-    NotOpen,
-    OutOfRange,
-    WrongCondition,
-    AgentSuspended,
-    PartMatched,
-    WrongDay,
-    Unpriced,
-    TooFewShares,
-    Uncovered,
-    OverCap,
-    NoPlace,
-    TooManyLoans,
-    ShortList,
-    LastDay,
+    Unopened = 1,
+    Unknown = 2,
+    NotOpen = 3,
+    OutOfRange = 4,
+    WrongCondition = 5,
+    AgentSuspended = 6,
+    PartMatched = 7,
+    WrongDay = 8,
+    Unpriced = 9,
+    TooFewShares = 10,
+    Uncovered = 11,
+    OverCap = 12,
+    NoPlace = 13,
+    TooManyLoans = 14,
+    ShortList = 15,
+    LastDay = 16,
 }
 
 impl Refusal {
@@ -80,23 +80,6 @@ impl Refusal {
     pub fn number(self) -> u64
         ensures { result ≡ refusal_number self }
     {
-        match self {
-            Refusal::Unopened => 1,
-            Refusal::Unknown => 2,
-            Refusal::NotOpen => 3,
-            Refusal::OutOfRange => 4,
-            Refusal::WrongCondition => 5,
-            Refusal::AgentSuspended => 6,
-            Refusal::PartMatched => 7,
-            Refusal::WrongDay => 8,
-            Refusal::Unpriced => 9,
-            Refusal::TooFewShares => 10,
-            Refusal::Uncovered => 11,
-            Refusal::OverCap => 12,
-            Refusal::NoPlace => 13,
-            Refusal::TooManyLoans => 14,
-            Refusal::ShortList => 15,
-            Refusal::LastDay => 16,
-        }
+        self as u64
     }
 }

@@ -6,11 +6,11 @@ ghost use Rattle.terms.specs.Numbers.{fault_number};
 /// line is too long.
 #[derive(Clone, Copy)]
 pub enum Fault {
-    NotVerb,
-    Missing,
-    Excess,
-    WrongKind,
-    TooLong,
+    NotVerb = 1,
+    Missing = 2,
+    Excess = 3,
+    WrongKind = 4,
+    TooLong = 5,
 }
 
 impl Fault {
@@ -18,12 +18,6 @@ impl Fault {
     pub fn number(self) -> u64
         ensures { result ≡ fault_number self }
     {
-        match self {
-            Fault::NotVerb => 1,
-            Fault::Missing => 2,
-            Fault::Excess => 3,
-            Fault::WrongKind => 4,
-            Fault::TooLong => 5,
-        }
+        self as u64
     }
 }

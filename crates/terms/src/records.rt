@@ -1,10 +1,15 @@
 //! What the book keeps a record of.
+ghost use Rattle.std.specs.Option.{ok_or};
 ghost use Rattle.std.specs.Prelude.{◌≡◌};
 ghost use Rattle.terms.specs.Numbers.{kind_number, kind_of, outcome_number};
+ghost use Rattle.terms.specs.declared.calls.Refusal.TheVariants.{Unknown};
+
+use crate::calls::Refusal;
 
 /// How an agent stands with the book.
-#[derive(Clone, Copy)]
+#[derive(Clone, Copy, Default, PartialEq, Eq)]
 pub enum Standing {
+    #[default]
     Clear,
     Notified,
     Suspended,
@@ -19,51 +24,50 @@ pub enum Event {
     Resume,
 }
 
-/// The kinds of collateral.
-#[derive(Clone, Copy)]
+/// The kinds of collateral, each by its number.
+#[derive(Clone, Copy, PartialEq, Eq)]
 pub enum Kind {
-    Cash,
-    Bills,
-    Bonds,
-    Guarantees,
+    Cash = 0,
+    Bills = 1,
+    Bonds = 2,
+    Guarantees = 3,
 }
 
 impl Kind {
-    /// The kind that has a number, from 0: `None` past the last.
-    pub fn numbered(number: u64) -> Option<Kind>
-        ensures { result ≡ kind_of number }
-    {
-        match number {
-            0 => Some(Kind::Cash),
-            1 => Some(Kind::Bills),
-            2 => Some(Kind::Bonds),
-            3 => Some(Kind::Guarantees),
-            _ => None,
-        }
-    }
-
     /// The number of the kind, which is its place among an agent's cents.
     pub fn number(self) -> usize
         ensures { result ≡ kind_number self }
     {
-        match self {
-            Kind::Cash => 0,
-            Kind::Bills => 1,
-            Kind::Bonds => 2,
-            Kind::Guarantees => 3,
+        self as usize
+    }
+}
+
+/// The kind that has a number; past the last it is unknown.
+impl TryFrom<u64> for Kind {
+    type Error = Refusal;
+
+    ghost try_from_gives = { λ number found. found ≡ ok_or (kind_of number) Unknown };
+
+    fn try_from(number: u64) -> Result<Kind, Refusal> {
+        match number {
+            0 => Ok(Kind::Cash),
+            1 => Ok(Kind::Bills),
+            2 => Ok(Kind::Bonds),
+            3 => Ok(Kind::Guarantees),
+            _ => Err(Refusal::Unknown),
         }
     }
 }
 
 /// An agent's standing, and its collateral: cents of each kind, at the kind's number.
-#[derive(Clone, Copy)]
+#[derive(Clone, Copy, Default)]
 pub struct Agent {
     pub standing: Standing,
     pub cents: [u64; 4],
 }
 
 /// Whether a security may be lent, the price posted last and the price in force, in cents.
-#[derive(Clone, Copy)]
+#[derive(Clone, Copy, Default)]
 pub struct Security {
     pub eligible: bool,
     pub posted: Option<u64>,
@@ -71,7 +75,7 @@ pub struct Security {
 }
 
 /// Whether a request is to be matched with one other alone, or may be shared among many.
-#[derive(Clone, Copy)]
+#[derive(Clone, Copy, PartialEq, Eq)]
 pub enum Sharing {
     One,
     Many,
@@ -156,8 +160,8 @@ pub struct Bill {
 /// What became of a loan that was due.
 #[derive(Clone, Copy)]
 pub enum Outcome {
-    Returned,
-    Failed,
+    Returned = 1,
+    Failed = 2,
 }
 
 impl Outcome {
@@ -165,10 +169,7 @@ impl Outcome {
     pub fn number(self) -> u64
         ensures { result ≡ outcome_number self }
     {
-        match self {
-            Outcome::Returned => 1,
-            Outcome::Failed => 2,
-        }
+        self as u64
     }
 }
 
