@@ -1,5 +1,1 @@
-mod KindNumbers
 mod Middays
-mod Pledged
-mod Suspended
-mod Tables

@@ -4,6 +4,7 @@ ghost use Rattle.definitions.specs.Questions.{Step};
 ghost use Rattle.definitions.specs.Sound.{Kempt};
 ghost use Rattle.definitions.specs.States.{kept_of};
 
+use questions::{is_opened, within};
 use register::CAP;
 use terms::calls::Refusal;
 use terms::ledger::Ledger;
@@ -15,24 +16,14 @@ pub fn pledge(ledger: &mut Ledger, agent: u64, kind: u64, cents: u64) -> Result<
     ensures step { Step (pledge_asks (kept_of ledger.old) agent kind cents) tt (pledge_does (kept_of ledger.old) agent kind cents) (kept_of ledger.old) (kept_of ledger.new) result }
     ensures kempt { Kempt ledger.new }
 {
-    if !ledger.opened {
-        return Err(Refusal::Unopened);
-    }
-    let Some(kind) = Kind::numbered(kind) else {
-        return Err(Refusal::Unknown);
-    };
-    if agent >= ledger.agents.len() as u64 {
-        return Err(Refusal::Unknown);
-    }
-    if cents < 1 || cents > CAP {
-        return Err(Refusal::OutOfRange);
-    }
-    let place = kind.number();
-    let agent = &mut ledger.agents[agent as usize];
-    let room = CAP - agent.cents[place];
-    if cents > room {
+    is_opened(ledger)?;
+    let agent = questions::agent(ledger, agent)?;
+    let kind = Kind::try_from(kind)?;
+    within(cents, 1, CAP)?;
+    let pledged = ledger.agents[agent].cents[kind.number()];
+    if pledged + cents > CAP {
         return Err(Refusal::OverCap);
     }
-    agent.cents[place] += cents;
+    ledger.agents[agent].cents[kind.number()] = pledged + cents;
     Ok(())
 }

@@ -5,6 +5,7 @@ ghost use Rattle.definitions.specs.Standings.{suspend_asks, suspend_does};
 ghost use Rattle.definitions.specs.States.{kept_of};
 
 use collateral::standings::change_standing;
+use questions::is_opened;
 use terms::calls::Refusal;
 use terms::ledger::Ledger;
 use terms::records::{Event, Standing};
@@ -15,14 +16,10 @@ pub fn suspend(ledger: &mut Ledger, agent: u64) -> Result<(), Refusal>
     ensures step { Step (suspend_asks (kept_of ledger.old) agent) tt (suspend_does (kept_of ledger.old) agent) (kept_of ledger.old) (kept_of ledger.new) result }
     ensures kempt { Kempt ledger.new }
 {
-    if !ledger.opened {
-        return Err(Refusal::Unopened);
-    }
-    if agent >= ledger.agents.len() as u64 {
-        return Err(Refusal::Unknown);
-    }
-    let agent = &mut ledger.agents[agent as usize];
-    if let Standing::Suspended = agent.standing {
+    is_opened(ledger)?;
+    let agent = questions::agent(ledger, agent)?;
+    let agent = &mut ledger.agents[agent];
+    if agent.standing == Standing::Suspended {
         return Err(Refusal::WrongCondition);
     }
     change_standing(agent, Event::Suspend);

@@ -5,6 +5,7 @@ ghost use Rattle.definitions.specs.Sound.{Kempt};
 ghost use Rattle.definitions.specs.States.{kept_of};
 
 use collateral::cover::covers;
+use questions::{is_opened, within};
 use register::CAP;
 use tariff::cover::weight;
 use terms::calls::Refusal;
@@ -17,28 +18,15 @@ pub fn unpledge(ledger: &mut Ledger, agent: u64, kind: u64, cents: u64) -> Resul
     ensures step { Step (unpledge_asks (kept_of ledger.old) agent kind cents) tt (unpledge_does (kept_of ledger.old) agent kind cents) (kept_of ledger.old) (kept_of ledger.new) result }
     ensures kempt { Kempt ledger.new }
 {
-    if !ledger.opened {
-        return Err(Refusal::Unopened);
-    }
-    let Some(kind) = Kind::numbered(kind) else {
-        return Err(Refusal::Unknown);
-    };
-    if agent >= ledger.agents.len() as u64 {
-        return Err(Refusal::Unknown);
-    }
-    if cents < 1 || cents > CAP {
-        return Err(Refusal::OutOfRange);
-    }
+    is_opened(ledger)?;
+    let agent = questions::agent(ledger, agent)?;
+    let kind = Kind::try_from(kind)?;
+    within(cents, 1, CAP)?;
+    let pledged = ledger.agents[agent].cents[kind.number()];
     let points = u128::from(cents) * u128::from(weight(kind));
-    if !covers(ledger, agent as usize, points) {
+    if cents > pledged || !covers(ledger, agent, points) {
         return Err(Refusal::Uncovered);
     }
-    let place = kind.number();
-    let agent = &mut ledger.agents[agent as usize];
-    let pledged = agent.cents[place];
-    if cents > pledged {
-        return Err(Refusal::Uncovered);
-    }
-    agent.cents[place] = pledged - cents;
+    ledger.agents[agent].cents[kind.number()] = pledged - cents;
     Ok(())
 }

@@ -6,6 +6,7 @@ ghost use Rattle.definitions.specs.Sound.{Sound};
 ghost use Rattle.definitions.specs.States.{state};
 
 use crate::totals::total_within_cap;
+use questions::{is_opened, line, within};
 use register::{CAP, Register};
 use terms::calls::Refusal;
 use terms::ledger::Ledger;
@@ -23,24 +24,13 @@ pub fn deposit<R: Register>(
     ensures sound { Sound (state (R.holdings register.new) ledger.now) }
     ensures frame { R.frame register.new ≡ R.frame register.old }
 {
-    if !ledger.opened {
-        return Err(Refusal::Unopened);
-    }
-    if account >= register.accounts() as u64 || security >= register.securities() as u64 {
-        return Err(Refusal::Unknown);
-    }
-    if quantity < 1 || quantity > CAP {
-        return Err(Refusal::OutOfRange);
-    }
-    let (account, security) = (account as usize, security as usize);
-    let Some(total) = total_within_cap(register, security) else {
-        return Err(Refusal::OverCap);
-    };
+    is_opened(ledger)?;
+    let (account, security) = line(register, account, security)?;
+    within(quantity, 1, CAP)?;
+    let total = total_within_cap(register, security).ok_or(Refusal::OverCap)?;
     if total + quantity > CAP {
         return Err(Refusal::OverCap);
     }
-    match register.credit(account, security, quantity) {
-        Ok(()) => Ok(()),
-        Err(_) => unreachable(),
-    }
+    register.credit(account, security, quantity).unwrap();
+    Ok(())
 }

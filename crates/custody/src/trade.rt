@@ -5,6 +5,7 @@ ghost use Rattle.definitions.specs.Questions.{Step};
 ghost use Rattle.definitions.specs.Sound.{Sound};
 ghost use Rattle.definitions.specs.States.{state};
 
+use questions::{is_opened, line, within};
 use register::{CAP, Register};
 use terms::calls::Refusal;
 use terms::ledger::Ledger;
@@ -23,21 +24,16 @@ pub fn trade<R: Register>(
     ensures sound { Sound (state (R.holdings register.new) ledger.now) }
     ensures frame { R.frame register.new ≡ R.frame register.old }
 {
-    if !ledger.opened {
-        return Err(Refusal::Unopened);
-    }
-    let accounts = register.accounts() as u64;
-    if giver >= accounts || receiver >= accounts || security >= register.securities() as u64 {
-        return Err(Refusal::Unknown);
-    }
-    if quantity < 1 || quantity > CAP || giver == receiver {
+    is_opened(ledger)?;
+    let (giver, _) = line(register, giver, security)?;
+    let (receiver, security) = line(register, receiver, security)?;
+    within(quantity, 1, CAP)?;
+    if giver == receiver {
         return Err(Refusal::OutOfRange);
     }
-    let Ok(()) = register.debit(giver as usize, security as usize, quantity) else {
-        return Err(Refusal::TooFewShares);
-    };
-    match register.credit(receiver as usize, security as usize, quantity) {
-        Ok(()) => Ok(()),
-        Err(_) => unreachable(),
-    }
+    register
+        .debit(giver, security, quantity)
+        .map_err(|_| Refusal::TooFewShares)?;
+    register.credit(receiver, security, quantity).unwrap();
+    Ok(())
 }

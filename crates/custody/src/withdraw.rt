@@ -5,6 +5,7 @@ ghost use Rattle.definitions.specs.Questions.{Step};
 ghost use Rattle.definitions.specs.Sound.{Sound};
 ghost use Rattle.definitions.specs.States.{state};
 
+use questions::{is_opened, line, within};
 use register::{CAP, Register};
 use terms::calls::Refusal;
 use terms::ledger::Ledger;
@@ -22,17 +23,10 @@ pub fn withdraw<R: Register>(
     ensures sound { Sound (state (R.holdings register.new) ledger.now) }
     ensures frame { R.frame register.new ≡ R.frame register.old }
 {
-    if !ledger.opened {
-        return Err(Refusal::Unopened);
-    }
-    if account >= register.accounts() as u64 || security >= register.securities() as u64 {
-        return Err(Refusal::Unknown);
-    }
-    if quantity < 1 || quantity > CAP {
-        return Err(Refusal::OutOfRange);
-    }
-    match register.debit(account as usize, security as usize, quantity) {
-        Ok(()) => Ok(()),
-        Err(_) => Err(Refusal::TooFewShares),
-    }
+    is_opened(ledger)?;
+    let (account, security) = line(register, account, security)?;
+    within(quantity, 1, CAP)?;
+    register
+        .debit(account, security, quantity)
+        .map_err(|_| Refusal::TooFewShares)
 }

@@ -4,6 +4,7 @@ ghost use Rattle.definitions.specs.Questions.{Step};
 ghost use Rattle.definitions.specs.Sound.{Upheld};
 ghost use Rattle.definitions.specs.States.{state};
 
+use questions::is_opened;
 use register::Register;
 use terms::calls::Refusal;
 use terms::ledger::Ledger;
@@ -14,13 +15,8 @@ pub fn admit<R: Register>(ledger: &mut Ledger, register: &R, security: u64) -> R
     ensures step { Step (admit_asks (state (R.holdings register.now) ledger.old) security) tt (admit_does (state (R.holdings register.now) ledger.old) security) (state (R.holdings register.now) ledger.old) (state (R.holdings register.now) ledger.new) result }
     ensures upheld { Upheld (R.holdings register.now) ledger.new }
 {
-    if !ledger.opened {
-        return Err(Refusal::Unopened);
-    }
-    if security >= register.securities() as u64 {
-        return Err(Refusal::Unknown);
-    }
-    let security = security as usize;
+    is_opened(ledger)?;
+    let security = questions::security(register, security)?;
     if ledger.securities[security].eligible {
         return Err(Refusal::WrongCondition);
     }

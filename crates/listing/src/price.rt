@@ -4,6 +4,7 @@ ghost use Rattle.definitions.specs.Questions.{Step};
 ghost use Rattle.definitions.specs.Sound.{Upheld};
 ghost use Rattle.definitions.specs.States.{state};
 
+use questions::{is_opened, within};
 use register::Register;
 use terms::calls::Refusal;
 use terms::ledger::Ledger;
@@ -21,15 +22,9 @@ pub fn price<R: Register>(
     ensures step { Step (price_asks (state (R.holdings register.now) ledger.old) security cents) tt (price_does (state (R.holdings register.now) ledger.old) security cents) (state (R.holdings register.now) ledger.old) (state (R.holdings register.now) ledger.new) result }
     ensures upheld { Upheld (R.holdings register.now) ledger.new }
 {
-    if !ledger.opened {
-        return Err(Refusal::Unopened);
-    }
-    if security >= register.securities() as u64 {
-        return Err(Refusal::Unknown);
-    }
-    if cents < 1 || cents > MOST_PRICE {
-        return Err(Refusal::OutOfRange);
-    }
-    ledger.securities[security as usize].posted = Some(cents);
+    is_opened(ledger)?;
+    let security = questions::security(register, security)?;
+    within(cents, 1, MOST_PRICE)?;
+    ledger.securities[security].posted = Some(cents);
     Ok(())
 }
