@@ -5,6 +5,7 @@ ghost use Rattle.definitions.specs.Questions.{Step};
 ghost use Rattle.definitions.specs.Sound.{Upheld};
 ghost use Rattle.definitions.specs.States.{state};
 
+use questions::is_opened;
 use register::Register;
 use removal::requests::remove_requests;
 use terms::calls::Refusal;
@@ -21,13 +22,8 @@ pub fn stop<R: Register>(
     ensures upheld { Upheld (R.holdings register.new) ledger.new }
     ensures frame { R.frame register.new ≡ R.frame register.old }
 {
-    if !ledger.opened {
-        return Err(Refusal::Unopened);
-    }
-    if security >= register.securities() as u64 {
-        return Err(Refusal::Unknown);
-    }
-    let security = security as usize;
+    is_opened(ledger)?;
+    let security = questions::security(register, security)?;
     if !ledger.securities[security].eligible {
         return Err(Refusal::WrongCondition);
     }

@@ -1,4 +1,4 @@
-use Rattle.std.proofs.Common.{◌<◌, sym, subst, rules, arith}
+use Rattle.std.proofs.Common.{ltb-true, ◌<◌, sym, subst, rules, arith}
 use Rattle.ordered.proofs.Deciding.{decides}
 use Rattle.definitions.specs.Limits.{most_securities}
 use Rattle.definitions.specs.Listing.{in_security}
@@ -13,9 +13,11 @@ remove_requests-requires-clause-decided g c = (in_security c.args.security, deci
 pub returns-clause-upheld : goal.returns-clause-upheld
 returns-clause-upheld g c =
     let x = state (g.R.Register.holdings c.args.register.now) c.args.ledger.now in
-    let known : c.args.security < most_securities = omega (arith, (c.requires.upright.borne c.if-not-ledger.false).securities) in
+    let s = c.in_ok-security.security in
+    let known : s < most_securities =
+    omega (arith, ltb-true _ _ c.in_ok-security.ensures.0, c.in_ok-security.ensures.1, (c.requires.upright.borne c.in_ok-is_opened.ensures.0).securities) in
     let removed = c.remove_requests.ensures in
     record {
       neat = removed.neat;
-      upright = subst Upright (sym (removed.leaves (in_security c.args.security) (decides _ (λ y b h. search rules)))) (upright_stopped x c.requires.upright c.args.security known);
+      upright = subst Upright (sym (removed.leaves (in_security s) (decides _ (λ y b h. search rules)))) (upright_stopped x c.requires.upright s known);
     }
