@@ -3,5 +3,6 @@
 
 pub mod noon;
 pub mod pledge;
+mod stakes;
 pub mod suspend;
 pub mod unpledge;

@@ -4,11 +4,10 @@ ghost use Rattle.definitions.specs.Questions.{Step};
 ghost use Rattle.definitions.specs.Sound.{Kempt};
 ghost use Rattle.definitions.specs.States.{kept_of};
 
-use questions::{is_opened, within};
+use crate::stakes::stake;
 use register::CAP;
 use terms::calls::Refusal;
 use terms::ledger::Ledger;
-use terms::records::Kind;
 
 /// Questions: opened, agent and kind, cents, and the agent's cents of the kind stay within the cap.
 pub fn pledge(ledger: &mut Ledger, agent: u64, kind: u64, cents: u64) -> Result<(), Refusal>
@@ -16,10 +15,7 @@ pub fn pledge(ledger: &mut Ledger, agent: u64, kind: u64, cents: u64) -> Result<
     ensures step { Step (pledge_asks (kept_of ledger.old) agent kind cents) tt (pledge_does (kept_of ledger.old) agent kind cents) (kept_of ledger.old) (kept_of ledger.new) result }
     ensures kempt { Kempt ledger.new }
 {
-    is_opened(ledger)?;
-    let agent = questions::agent(ledger, agent)?;
-    let kind = Kind::try_from(kind)?;
-    within(cents, 1, CAP)?;
+    let (agent, kind) = stake(ledger, agent, kind, cents)?;
     let pledged = ledger.agents[agent].cents[kind.number()];
     if pledged + cents > CAP {
         return Err(Refusal::OverCap);

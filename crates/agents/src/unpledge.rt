@@ -4,13 +4,12 @@ ghost use Rattle.definitions.specs.Questions.{Step};
 ghost use Rattle.definitions.specs.Sound.{Kempt};
 ghost use Rattle.definitions.specs.States.{kept_of};
 
+use crate::stakes::stake;
 use collateral::cover::covers;
-use questions::{is_opened, within};
 use register::CAP;
 use tariff::cover::weight;
 use terms::calls::Refusal;
 use terms::ledger::Ledger;
-use terms::records::Kind;
 
 /// Questions: opened, agent and kind, cents, and the agent has the cents and does not need their points.
 pub fn unpledge(ledger: &mut Ledger, agent: u64, kind: u64, cents: u64) -> Result<(), Refusal>
@@ -18,10 +17,7 @@ pub fn unpledge(ledger: &mut Ledger, agent: u64, kind: u64, cents: u64) -> Resul
     ensures step { Step (unpledge_asks (kept_of ledger.old) agent kind cents) tt (unpledge_does (kept_of ledger.old) agent kind cents) (kept_of ledger.old) (kept_of ledger.new) result }
     ensures kempt { Kempt ledger.new }
 {
-    is_opened(ledger)?;
-    let agent = questions::agent(ledger, agent)?;
-    let kind = Kind::try_from(kind)?;
-    within(cents, 1, CAP)?;
+    let (agent, kind) = stake(ledger, agent, kind, cents)?;
     let pledged = ledger.agents[agent].cents[kind.number()];
     let points = u128::from(cents) * u128::from(weight(kind));
     if cents > pledged || !covers(ledger, agent, points) {
