@@ -100,6 +100,7 @@ fn place_for<T: Ranked>(places: &[Option<T>], item: &T) -> Result<usize, PutRefu
 fn open_at<T: Ranked + Drop>(places: &mut [Option<T>], at: usize, item: T)
     requires ordered { Ordered T.precedes places.old }
     requires fits { Fits T.precedes item places.old at }
+    requires within { at < length places.old }
     ensures { Put T.precedes item places.old (Ok tt) places.new }
 {
     let rest = &mut places[at..];
@@ -129,6 +130,7 @@ fn write_at<T: Drop>(places: &mut [Option<T>], place: usize, item: T) -> Option<
 }
 
 // Puts a record in where it belongs.
+#[tactic(auto, using(crate::proofs::Steps::fits_within))]
 pub(crate) fn put_in<T: Ranked + Drop>(places: &mut [Option<T>], item: T) -> Result<(), PutRefusal>
     requires { Ordered T.precedes places.old }
     ensures { Put T.precedes item places.old result places.new }
