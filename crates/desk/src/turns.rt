@@ -12,6 +12,9 @@ use instructions::parse::parse_line;
 use std::slice::Iter;
 use terms::calls::{Answer, Call, Refusal};
 
+// The reply to what cannot be put to the book, or has no answer.
+const UNOPENED: Reply = Reply::Refused(Refusal::Unopened);
+
 // The day on which the book is open before a line, if it is, and what the line asks for or its fault as one of the program's.
 #[derive(Clone, Copy)]
 pub(crate) struct Turn {
@@ -56,14 +59,13 @@ impl Turn {
     {
         match (self.day, self.asked) {
             (_, Err(fault)) => Reply::Faulty(fault),
-            (None, Ok(Instruction::Start { day })) if day <= LAST_OPENING => Reply::Answered(
-                Answer::Done,
-            ),
-            (Some(_), Ok(Instruction::Call(_))) => entries.next().map_or(
-                Reply::Refused(Refusal::Unopened),
-                |entry| entry.answer.into(),
-            ),
-            _ => Reply::Refused(Refusal::Unopened),
+            (None, Ok(Instruction::Start { day })) if day <= LAST_OPENING => {
+                Reply::Answered(Answer::Done)
+            }
+            (Some(_), Ok(Instruction::Call(_))) => {
+                entries.next().map_or(UNOPENED, |entry| entry.answer.into())
+            }
+            _ => UNOPENED,
         }
     }
 }
