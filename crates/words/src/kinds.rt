@@ -50,6 +50,8 @@ impl<'a> Word<'a> {
         }
     }
 
+    // Here and below, a method for each kind, since a function cannot be given a variant to match.
+
     // The verb that the word is.
     pub(crate) fn as_verb(self) -> Option<Verb>
         ensures { result ≡ as_verb (meant self.entry) }
