@@ -1,4 +1,4 @@
-mod Leftovers
+mod Kept
 mod Onward
 mod Passes
 mod ZeroBytes

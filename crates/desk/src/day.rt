@@ -1,6 +1,6 @@
 //! A day's text, from its bytes to the bytes of the answers.
-ghost use Rattle.std.specs.Prelude.{◌≡◌, ◌≤◌, length, IfOk, None, string_bytes};
-ghost use Rattle.desk.specs.Day.{day_text, most_bytes, zeros as zero_holdings};
+ghost use Rattle.std.specs.Prelude.{◌≡◌, IfOk, None, string_bytes};
+ghost use Rattle.desk.specs.Day.{day_text, zeros as zero_holdings};
 ghost use Rattle.desk.specs.Plan.{told};
 ghost use Rattle.definitions.specs.Runs.{answers};
 ghost use Rattle.definitions.specs.States.{opening};
@@ -21,7 +21,6 @@ const MOST_BYTES: usize = 65_536;
 
 // The replies to a text that opens the book on a day and puts these calls to it.
 fn answer_run(heap: Global, text: &[u8], day: u64, calls: &[Call]) -> Result<String, AllocError>
-    requires { length text.now ≤ most_bytes }
     ensures { IfOk result (λ s. string_bytes s ≡ told 1 None (answers (opening zero_holdings day) calls.now) (lines text.now)) }
 {
     let mut bytes = zero_image(heap)?;

@@ -5,6 +5,7 @@ pub mod console;
 pub mod day;
 mod plan;
 mod replies;
+mod turns;
 mod zeros;
 
 #[cfg(test)]

@@ -25,3 +25,10 @@ abbrev pub reply_text : ℕ → Reply → List ℕ
 reply_text n (Answered a) = answer_text n a
 reply_text n (Refused r) = refusal_text n (refusal_number r)
 reply_text n (Faulty e) = fault_text n (program_fault_number e) (program_fault_place e)
+
+-- What is said of a line, the number of the line and the newline apart.
+abbrev pub worded : Reply → List ℕ
+worded (Answered Done) = codes "ok"
+worded (Answered (Suspensions k)) = codes "ok " ++ decimal k
+worded (Refused r) = codes "no " ++ decimal (refusal_number r)
+worded (Faulty e) = codes "bad " ++ (decimal (program_fault_number e) ++ (codes " " ++ decimal (program_fault_place e)))

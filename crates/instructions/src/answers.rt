@@ -1,9 +1,11 @@
 //! The texts of the answers, one line for each.
-ghost use Rattle.std.specs.Prelude.{◌≡◌, IfOk, string_bytes};
-ghost use Rattle.instructions.specs.Answers.{answer_text, fault_text, refusal_text, reply_text};
+ghost use Rattle.std.specs.Prelude.{◌≡◌, IfOk, MatchResult, Some, string_bytes};
+ghost use Rattle.instructions.specs.Answers.{reply_text, worded};
+ghost use Rattle.instructions.specs.declared.answers.Reply.TheVariants.{Answered, Refused};
 
 use crate::faults::ProgramFault;
 use std::alloc::{AllocError, Global};
+use std::fmt;
 use terms::calls::{Answer, Refusal};
 
 /// What is said of a line: what the book answered, why it refused, or what is wrong with the line or with all of the input.
@@ -14,37 +16,35 @@ pub enum Reply {
     Faulty(ProgramFault),
 }
 
-// n ok, or after noon n ok N, the number of agents that it suspended
-fn answer_text(heap: Global, n: usize, answer: Answer) -> Result<String, AllocError>
-    ensures { IfOk result (λ s. string_bytes s ≡ answer_text n answer) }
-{
-    match answer {
-        Answer::Done => format!(in heap; "{n} ok\n"),
-        Answer::Suspensions(agents) => format!(in heap; "{n} ok {agents}\n"),
+/// What the book says to a call is said of its line.
+impl From<Result<Answer, Refusal>> for Reply {
+    ghost from_gives = { λ a r. MatchResult a (λ v. r ≡ Answered v) (λ e. r ≡ Refused e) };
+
+    fn from(answer: Result<Answer, Refusal>) -> Reply {
+        match answer {
+            Ok(answer) => Reply::Answered(answer),
+            Err(refusal) => Reply::Refused(refusal),
+        }
     }
 }
 
-// n no R
-fn refusal_text(heap: Global, n: usize, refusal: u64) -> Result<String, AllocError>
-    ensures { IfOk result (λ s. string_bytes s ≡ refusal_text n refusal) }
-{
-    format!(in heap; "{n} no {refusal}\n")
-}
+/// Prints `ok`, and after noon the number of agents that it suspended; `no` and the refusal; or `bad`, the fault and its place.
+impl fmt::Display for Reply {
+    ghost output = { λ r. Some (worded r) };
 
-// n bad F P
-fn fault_text(heap: Global, n: usize, fault: u64, place: usize) -> Result<String, AllocError>
-    ensures { IfOk result (λ s. string_bytes s ≡ fault_text n fault place) }
-{
-    format!(in heap; "{n} bad {fault} {place}\n")
+    fn fmt<W: fmt::Write>(&self, f: &mut fmt::Formatter<W>) -> fmt::Result {
+        match *self {
+            Reply::Answered(Answer::Done) => write!(f, "ok"),
+            Reply::Answered(Answer::Suspensions(agents)) => write!(f, "ok {agents}"),
+            Reply::Refused(refusal) => write!(f, "no {}", refusal.number()),
+            Reply::Faulty(fault) => write!(f, "bad {} {}", fault.number(), fault.place()),
+        }
+    }
 }
 
 /// The reply to the nth line as a line of text.
 pub fn reply_text(heap: Global, n: usize, reply: Reply) -> Result<String, AllocError>
     ensures { IfOk result (λ s. string_bytes s ≡ reply_text n reply) }
 {
-    match reply {
-        Reply::Answered(answer) => answer_text(heap, n, answer),
-        Reply::Refused(refusal) => refusal_text(heap, n, refusal.number()),
-        Reply::Faulty(fault) => fault_text(heap, n, fault.number(), fault.place()),
-    }
+    format!(in heap; "{n} {reply}\n")
 }

@@ -1,6 +1,6 @@
 //! What a line asks for.
 ghost use Rattle.std.specs.Prelude.{◌≡◌};
-ghost use Rattle.instructions.specs.Meaning.{admits, asked, deposits, instructs, noons, one_number, parsed, pledges, prices, starts, stops, suspends, three_numbers, trades, unpledges, withdraws};
+ghost use Rattle.instructions.specs.Meaning.{asked, instructs, parsed, starts};
 ghost use Rattle.words.specs.Reading.{left};
 
 use crate::faults::LineFault;
@@ -13,24 +13,14 @@ use words::verbs::Verb;
 // The most bytes that a line may have, its newline apart.
 const MOST_BYTES: usize = 120;
 
-// One number and no more.
-fn one_number(words: &mut Reader) -> Result<u64, LineFault>
-    ensures { result ≡ one_number (left words.old) }
-{
-    let x = words.number()?;
-    words.end()?;
-    Ok(x)
-}
-
-// Three numbers and no more.
-fn three_numbers(words: &mut Reader) -> Result<(u64, u64, u64), LineFault>
-    ensures { result ≡ three_numbers (left words.old) }
-{
-    let x = words.number()?;
-    let y = words.number()?;
-    let z = words.number()?;
-    words.end()?;
-    Ok((x, y, z))
+// The call of a verb, whose operands are these numbers in this order and no more. It is a macro, since a function cannot be given
+// the names of a variant's fields.
+macro_rules! call {
+    ($words:ident => $verb:ident $($number:ident)*) => {{
+        $(let $number = $words.number()?;)*
+        $words.end()?;
+        Ok(Instruction::Call(Call::$verb { $($number),* }))
+    }};
 }
 
 // start DATE
@@ -42,127 +32,22 @@ fn start(words: &mut Reader) -> Result<Instruction, LineFault>
     Ok(Instruction::Start { day })
 }
 
-// admit security
-fn admit(words: &mut Reader) -> Result<Instruction, LineFault>
-    ensures { result ≡ admits (left words.old) }
-{
-    let security = one_number(words)?;
-    Ok(Instruction::Call(Call::Admit { security }))
-}
-
-// stop security
-fn stop(words: &mut Reader) -> Result<Instruction, LineFault>
-    ensures { result ≡ stops (left words.old) }
-{
-    let security = one_number(words)?;
-    Ok(Instruction::Call(Call::Stop { security }))
-}
-
-// price security cents
-fn price(words: &mut Reader) -> Result<Instruction, LineFault>
-    ensures { result ≡ prices (left words.old) }
-{
-    let security = words.number()?;
-    let cents = words.number()?;
-    words.end()?;
-    Ok(Instruction::Call(Call::Price { security, cents }))
-}
-
-// deposit account security quantity
-fn deposit(words: &mut Reader) -> Result<Instruction, LineFault>
-    ensures { result ≡ deposits (left words.old) }
-{
-    let account = words.number()?;
-    let security = words.number()?;
-    let quantity = words.number()?;
-    words.end()?;
-    Ok(Instruction::Call(Call::Deposit {
-        account,
-        security,
-        quantity,
-    }))
-}
-
-// withdraw account security quantity
-fn withdraw(words: &mut Reader) -> Result<Instruction, LineFault>
-    ensures { result ≡ withdraws (left words.old) }
-{
-    let account = words.number()?;
-    let security = words.number()?;
-    let quantity = words.number()?;
-    words.end()?;
-    Ok(Instruction::Call(Call::Withdraw {
-        account,
-        security,
-        quantity,
-    }))
-}
-
-// trade giver receiver security quantity
-fn trade(words: &mut Reader) -> Result<Instruction, LineFault>
-    ensures { result ≡ trades (left words.old) }
-{
-    let giver = words.number()?;
-    let receiver = words.number()?;
-    let security = words.number()?;
-    let quantity = words.number()?;
-    words.end()?;
-    Ok(Instruction::Call(Call::Trade {
-        giver,
-        receiver,
-        security,
-        quantity,
-    }))
-}
-
-// pledge agent kind cents
-fn pledge(words: &mut Reader) -> Result<Instruction, LineFault>
-    ensures { result ≡ pledges (left words.old) }
-{
-    let (agent, kind, cents) = three_numbers(words)?;
-    Ok(Instruction::Call(Call::Pledge { agent, kind, cents }))
-}
-
-// unpledge agent kind cents
-fn unpledge(words: &mut Reader) -> Result<Instruction, LineFault>
-    ensures { result ≡ unpledges (left words.old) }
-{
-    let (agent, kind, cents) = three_numbers(words)?;
-    Ok(Instruction::Call(Call::Unpledge { agent, kind, cents }))
-}
-
-// suspend agent
-fn suspend(words: &mut Reader) -> Result<Instruction, LineFault>
-    ensures { result ≡ suspends (left words.old) }
-{
-    let agent = one_number(words)?;
-    Ok(Instruction::Call(Call::Suspend { agent }))
-}
-
-// noon
-fn noon(words: &mut Reader) -> Result<Instruction, LineFault>
-    ensures { result ≡ noons (left words.old) }
-{
-    words.end()?;
-    Ok(Instruction::Call(Call::Noon))
-}
-
 // What the words after the verb ask for.
 fn rest_of_line(verb: Verb, words: &mut Reader) -> Result<Instruction, LineFault>
     ensures { result ≡ asked verb (left words.old) }
 {
     match verb {
         Verb::Start => start(words),
-        Verb::Admit => admit(words),
-        Verb::Stop => stop(words),
-        Verb::Price => price(words),
-        Verb::Deposit => deposit(words),
-        Verb::Withdraw => withdraw(words),
-        Verb::Trade => trade(words),
-        Verb::Pledge => pledge(words),
-        Verb::Unpledge => unpledge(words),
-        Verb::Suspend => suspend(words),
-        Verb::Noon => noon(words),
+        Verb::Admit => call!(words => Admit security),
+        Verb::Stop => call!(words => Stop security),
+        Verb::Price => call!(words => Price security cents),
+        Verb::Deposit => call!(words => Deposit account security quantity),
+        Verb::Withdraw => call!(words => Withdraw account security quantity),
+        Verb::Trade => call!(words => Trade giver receiver security quantity),
+        Verb::Pledge => call!(words => Pledge agent kind cents),
+        Verb::Unpledge => call!(words => Unpledge agent kind cents),
+        Verb::Suspend => call!(words => Suspend agent),
+        Verb::Noon => call!(words => Noon),
     }
 }
 

@@ -1,7 +1,8 @@
 pub mod Decimal
-pub mod Firsts
 pub mod Joins
 pub mod Nexts
 pub mod Numerals
+pub mod Rests
+pub mod Spellings
 pub mod Splits
-pub mod Unnamed
+pub mod Untils

@@ -1,10 +1,11 @@
 -- The words of a line, each as one of the kind that is asked for.
-use Rattle.std.specs.Prelude.{ℕ, List, [], ◌∷◌, Some, None, Ok, Err, Option, Result}
+use Rattle.std.specs.Prelude.{◌≡◌, ℕ, List, [], ◌∷◌, Some, None, Ok, Err, Option, Result}
 use Rattle.std.specs.Option.{ok_or}
-use Rattle.words.specs.Kinds.{Kind, verb, number, day, expiry, sharing, Meant, Value, read, value_as}
+use Rattle.words.specs.Kinds.{Kind, verb, number, day, expiry, sharing, Meant, Value, meant, read, value_as}
 use Rattle.words.specs.Reading.{Left, first}
 use Rattle.words.specs.declared.faults.WordFault.{WordFault}
 use Rattle.words.specs.declared.faults.WordFault.TheVariants.{NotVerb, Missing, Excess, WrongKind}
+use Rattle.words.specs.declared.kinds.Word.{Word}
 
 -- What a word says that was handed out, and its place.
 abbrev pub told : Option (List ℕ × ℕ) → ℕ → Result (Meant × ℕ) WordFault
@@ -31,6 +32,12 @@ field_of k (Err e) = Err e
 -- The next word as one of a kind.
 abbrev pub field : (k : Kind) → Left → Result (Value k) WordFault
 field k l = field_of k (next l)
+
+-- r is what a kind makes of a word that was read, or else the fault at its place. `makes` says what the kind makes of words, and
+-- `faults` what is wrong at places.
+abbrev pub ReadBy : {T : Type 0} → (Word → Option T → Type 0) → (ℕ → WordFault → Type 0) → Result (Meant × ℕ) WordFault → Result T WordFault → Type 0
+ReadBy {T} makes faults (Ok x) r = (w : Word) × (o : Option T) × (e : WordFault) × (meant w ≡ x.0) × makes w o × faults x.1 e × (r ≡ ok_or o e)
+ReadBy makes faults (Err e) r = r ≡ Err e
 
 -- No word is among those that are left.
 abbrev pub done_of : List (List ℕ) → ℕ → Result (Unit {0}) WordFault

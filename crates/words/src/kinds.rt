@@ -1,6 +1,6 @@
 //! The kinds of words.
 ghost use Rattle.std.specs.Prelude.{◌≡◌};
-ghost use Rattle.words.specs.Kinds.{read, meant, spelt, sharing_named, is_dash, as_verb, as_number, as_day, as_expiry, as_sharing};
+ghost use Rattle.words.specs.Kinds.{read, meant, spelt, sharing_named, as_verb, as_number, as_day, as_expiry, as_sharing};
 
 use crate::dates::day_written;
 use crate::numbers::number_of;
@@ -18,32 +18,15 @@ pub enum Word<'a> {
     Other(&'a [u8]),
 }
 
-// The sharing that the text names, if it names one.
-fn sharing_named(text: &str) -> Option<Sharing>
-    ensures { result ≡ sharing_named text.now }
-{
-    match text {
-        "one" => Some(Sharing::One),
-        "many" => Some(Sharing::Many),
-        _ => None,
-    }
-}
-
-// The sharing that the bytes of a word name, if they name one.
+// The sharing that the word names, if it names one.
 fn sharing_of(word: &[u8]) -> Option<Sharing>
     ensures { result ≡ sharing_named word.now }
 {
-    match std::str::from_utf8(word) {
-        Ok(text) => sharing_named(text),
-        Err(_) => None,
+    match word {
+        b"one" => Some(Sharing::One),
+        b"many" => Some(Sharing::Many),
+        _ => None,
     }
-}
-
-// Whether the word is a dash.
-fn is_dash(word: &[u8]) -> bool
-    ensures { result ≡ is_dash word.now }
-{
-    word.len() == 1 && word[0] == b'-'
 }
 
 impl<'a> Word<'a> {
@@ -53,23 +36,21 @@ impl<'a> Word<'a> {
         ensures kind { meant result ≡ read part.now }
     {
         if let Some(n) = number_of(part) {
-            return Word::Number(part, n);
-        }
-        if let Some(verb) = verb_of(part) {
-            return Word::Verb(part, verb);
-        }
-        if let Some(day) = day_written(part) {
-            return Word::Date(part, day);
-        }
-        if let Some(sharing) = sharing_of(part) {
-            return Word::Sharing(part, sharing);
-        }
-        if is_dash(part) {
+            Word::Number(part, n)
+        } else if let Some(verb) = verb_of(part) {
+            Word::Verb(part, verb)
+        } else if let Some(day) = day_written(part) {
+            Word::Date(part, day)
+        } else if let Some(sharing) = sharing_of(part) {
+            Word::Sharing(part, sharing)
+        } else if part == b"-".as_slice() {
             Word::Dash(part)
         } else {
             Word::Other(part)
         }
     }
+
+    // Here and below, a method for each kind, since a function cannot be given a variant to match.
 
     // The verb that the word is.
     pub(crate) fn as_verb(self) -> Option<Verb>

@@ -1,5 +1,5 @@
 //! The lines of a text, one after another.
-ghost use Rattle.std.specs.Prelude.{◌≡◌, suc, ◌≤◌, length, drop};
+ghost use Rattle.std.specs.Prelude.{length};
 ghost use Rattle.words.specs.Texts.{Gave};
 ghost use Rattle.std.specs.Iterator.{at_most};
 
@@ -11,18 +11,6 @@ const NEWLINE: u8 = b'\n';
 #[derive(Drop)]
 pub struct Lines<'a> {
     pub rest: &'a [u8],
-}
-
-// The text after its first n bytes and one more.
-fn past(rest: &[u8], n: usize) -> &[u8]
-    requires { n ≤ length rest.now }
-    ensures { result.now ≡ drop (suc n) rest.now }
-{
-    if n < rest.len() {
-        &rest[n + 1..]
-    } else {
-        &rest[n..]
-    }
 }
 
 /// Gives the lines without their newlines.
@@ -39,7 +27,7 @@ impl<'a> Iterator for Lines<'a> {
             return None;
         }
         let n = length_until(NEWLINE, rest);
-        self.rest = past(rest, n);
-        Some(&rest[0..n])
+        self.rest = rest.get(n + 1..).unwrap_or_default();
+        Some(&rest[..n])
     }
 }

@@ -7,10 +7,5 @@ pub(crate) fn length_until(mark: u8, bytes: &[u8]) -> usize
     ensures within { result ≤ length bytes.now }
     ensures value { result ≡ until mark bytes.now }
 {
-    for (i, b) in bytes.iter().enumerate() {
-        if *b == mark {
-            return i;
-        }
-    }
-    bytes.len()
+    bytes.iter().position(|b| *b == mark).unwrap_or(bytes.len())
 }

@@ -19,7 +19,7 @@ pub(crate) fn number_of(word: &[u8]) -> Option<u64>
     digits_of(word)
 }
 
-// The number that at most 13 digits write.
+// The number that at most 13 digits write. A loop, since in a `try_fold` it is not proved that ten times the number so far fits.
 fn digits_of(word: &[u8]) -> Option<u64>
     requires { length word.now ≤ 13 }
     ensures { result ≡ digits 0 word.now }

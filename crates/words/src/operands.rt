@@ -1,7 +1,7 @@
 //! The words of a line, each as one of the kind that is asked for.
 ghost use Rattle.std.specs.Prelude.{◌≡◌, Ok, Err, MatchResult};
 ghost use Rattle.words.specs.Kinds.{verb as the_verb, number as a_number, day as a_day, expiry as an_expiry, sharing as a_sharing, meant};
-ghost use Rattle.words.specs.Operands.{done, field, next as the_next};
+ghost use Rattle.words.specs.Operands.{ReadBy, done, field, next as the_next};
 ghost use Rattle.words.specs.Reading.{left, step};
 
 use crate::faults::WordFault;
@@ -17,10 +17,23 @@ impl<'a> Reader<'a> {
         ensures after { left self.new ≡ step (left self.old) }
     {
         let place = self.place();
-        match self.next() {
-            None => Err(WordFault::Missing(place)),
-            Some(part) => Ok((Word::of(part.bytes), part.place)),
-        }
+        let part = self.next().ok_or(WordFault::Missing(place))?;
+        Ok((Word::of(part.bytes), part.place))
+    }
+
+    // What `kind` makes of the next word. Where it makes nothing of it, `fault` says what is wrong at its place.
+    fn field<T: Drop, K: FnOnce(Word<'a>) -> Option<T>, F: FnOnce(usize) -> WordFault>(
+        &mut self,
+        kind: K,
+        fault: F,
+    ) -> Result<T, WordFault>
+        requires kinds { K.IsAlwaysCallable kind }
+        requires faults { F.IsAlwaysCallable fault }
+        ensures value { ReadBy (K.post kind) (F.post fault) (the_next (left self.old)) result }
+        ensures after { left self.new ≡ step (left self.old) }
+    {
+        let (word, place) = self.word()?;
+        kind(word).ok_or(fault(place))
     }
 
     /// The next word, which has to be a verb.
@@ -28,8 +41,7 @@ impl<'a> Reader<'a> {
         ensures value { result ≡ field the_verb (left self.old) }
         ensures after { left self.new ≡ step (left self.old) }
     {
-        let (word, place) = self.word()?;
-        word.as_verb().ok_or(WordFault::NotVerb(place))
+        self.field(Word::as_verb, WordFault::NotVerb)
     }
 
     /// The next word, which has to be a number.
@@ -37,8 +49,7 @@ impl<'a> Reader<'a> {
         ensures value { result ≡ field a_number (left self.old) }
         ensures after { left self.new ≡ step (left self.old) }
     {
-        let (word, place) = self.word()?;
-        word.as_number().ok_or(WordFault::WrongKind(place))
+        self.field(Word::as_number, WordFault::WrongKind)
     }
 
     /// The next word, which has to be a date: its day.
@@ -46,8 +57,7 @@ impl<'a> Reader<'a> {
         ensures value { result ≡ field a_day (left self.old) }
         ensures after { left self.new ≡ step (left self.old) }
     {
-        let (word, place) = self.word()?;
-        word.as_day().ok_or(WordFault::WrongKind(place))
+        self.field(Word::as_day, WordFault::WrongKind)
     }
 
     /// The next word, which has to be a date or a dash: the day, if one is given.
@@ -55,8 +65,7 @@ impl<'a> Reader<'a> {
         ensures value { result ≡ field an_expiry (left self.old) }
         ensures after { left self.new ≡ step (left self.old) }
     {
-        let (word, place) = self.word()?;
-        word.as_expiry().ok_or(WordFault::WrongKind(place))
+        self.field(Word::as_expiry, WordFault::WrongKind)
     }
 
     /// The next word, which has to be `one` or `many`.
@@ -64,8 +73,7 @@ impl<'a> Reader<'a> {
         ensures value { result ≡ field a_sharing (left self.old) }
         ensures after { left self.new ≡ step (left self.old) }
     {
-        let (word, place) = self.word()?;
-        word.as_sharing().ok_or(WordFault::WrongKind(place))
+        self.field(Word::as_sharing, WordFault::WrongKind)
     }
 
     /// No further word.

@@ -4,6 +4,7 @@ ghost use Rattle.std.specs.Prelude.{◌+◌, ◌≤◌, length};
 pub mod parts;
 
 /// What is left of a line: the next word begins at `at` and is the `place`th. Past the end there is none.
+// The line stays whole, with an index beside it, since the contract of `next` says where in the line each part was cut.
 #[derive(Drop)]
 pub struct Reader<'a> {
     line: &'a [u8],

@@ -18,32 +18,22 @@ pub enum Verb {
     Noon,
 }
 
-// The verb that the text names, if it names one.
-fn named(text: &str) -> Option<Verb>
-    ensures { result ≡ verb_named text.now }
-{
-    match text {
-        "start" => Some(Verb::Start),
-        "admit" => Some(Verb::Admit),
-        "stop" => Some(Verb::Stop),
-        "price" => Some(Verb::Price),
-        "deposit" => Some(Verb::Deposit),
-        "withdraw" => Some(Verb::Withdraw),
-        "trade" => Some(Verb::Trade),
-        "pledge" => Some(Verb::Pledge),
-        "unpledge" => Some(Verb::Unpledge),
-        "suspend" => Some(Verb::Suspend),
-        "noon" => Some(Verb::Noon),
-        _ => None,
-    }
-}
-
-// The verb that the bytes of a word name, if they name one.
+// The verb that the word names, if it names one.
 pub(crate) fn verb_of(word: &[u8]) -> Option<Verb>
     ensures { result ≡ verb_named word.now }
 {
-    match std::str::from_utf8(word) {
-        Ok(text) => named(text),
-        Err(_) => None,
+    match word {
+        b"start" => Some(Verb::Start),
+        b"admit" => Some(Verb::Admit),
+        b"stop" => Some(Verb::Stop),
+        b"price" => Some(Verb::Price),
+        b"deposit" => Some(Verb::Deposit),
+        b"withdraw" => Some(Verb::Withdraw),
+        b"trade" => Some(Verb::Trade),
+        b"pledge" => Some(Verb::Pledge),
+        b"unpledge" => Some(Verb::Unpledge),
+        b"suspend" => Some(Verb::Suspend),
+        b"noon" => Some(Verb::Noon),
+        _ => None,
     }
 }

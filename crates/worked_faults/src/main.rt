@@ -4,6 +4,7 @@
 use desk::console::answer_input;
 use std::io;
 
+// A program is tested on one input, so each worked day is a program of its own.
 fn main(rt: HostRuntime) -> io::Result<()> {
     answer_input(&rt)
 }

@@ -34,16 +34,13 @@ impl<'a> Reader<'a> {
         ensures after { left self.new ≡ step (left self.old) }
         ensures part { MatchOption result (self.new ≡ self.old) (λ w. Cut self.old w self.new) }
     {
-        if self.at > self.line.len() {
-            return None;
-        }
-        let rest = &self.line[self.at..];
+        let rest = self.line.get(self.at..)?;
         let n = length_until(SPACE, rest);
         let place = self.place;
         self.at = self.at + n + 1;
         self.place = place + 1;
         Some(Part {
-            bytes: &rest[0..n],
+            bytes: &rest[..n],
             place,
         })
     }

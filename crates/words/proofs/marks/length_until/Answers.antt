@@ -1,20 +1,13 @@
-use Rattle.std.proofs.Common.{◌≡◌, suc, ◌+◌, drop, ◌∙◌, arith}
-use Rattle.std.proofs.lemmas.List.{at_drop_more, at_drop_all}
-use Rattle.std.proofs.lemmas.Bool.{cond-true, cond-false, eq-eqb, ne_eqb}
-use Rattle.words.specs.Parts.{until}
+use Rattle.std.proofs.Common.{◌≡◌, ℕ, rules, eqb, length, ap, ◌∙◌}
+use borrow.Author.Tests.{tests}
+use Rattle.std.specs.List.{position}
+use Rattle.std.specs.Option.{unwrap_or}
+use Rattle.std.proofs.lemmas.Iterator.{YieldsList-from_slice}
+use Rattle.std.proofs.lemmas.Iterator.Search.{position_from_yields_List}
+use Rattle.words.proofs.Untils.{until_found}
 use Rattle.words.proofs.marks.length_until.Goals as goal
 
-pub returns-then-b-mark : goal.returns-then-b-mark
-returns-then-b-mark c =
-    let here = until c.args.mark in
-    let e : here (drop c.loop-i.i c.args.bytes.now) ≡ 0 = at_drop_more here c.args.bytes.now c.loop-i.i 0 (omega arith) ∙ cond-true _ _ _ (eq-eqb _ _ c.if-b-mark.true) in
-    record { within = omega arith; value = omega (arith, e, c.loop-i.invariant) }
-
-pub loop-i-preserved : goal.loop-i-preserved
-loop-i-preserved c =
-    let here = until c.args.mark in
-    let e : here (drop c.loop-i.i c.args.bytes.now) ≡ suc (here (drop (c.loop-i.i + 1) c.args.bytes.now)) = at_drop_more here c.args.bytes.now c.loop-i.i 0 (omega arith) ∙ cond-false _ _ _ (ne_eqb _ _ c.if-b-mark.false) in
-    omega (arith, e, c.loop-i.invariant)
-
-pub returns : goal.returns
-returns c = record { within = omega arith; value = omega (arith, at_drop_all (until c.args.mark) c.args.bytes.now c.loop-i.i (omega arith), c.loop-i.invariant) }
+pub returns-clause-value : goal.returns-clause-value
+returns-clause-value c =
+    let p : c.position.result ≡ position (λ (b : ℕ). eqb b c.args.mark) c.args.bytes.now = position_from_yields_List (λ (b : ℕ). eqb b c.args.mark) _ _ c.position.result c.position.ensures.ran (YieldsList-from_slice c.args.bytes.now cc) (λ x b q k. search (rules, tests)) in
+    c.unwrap_or.ensures ∙ ap (λ o. unwrap_or o (length c.args.bytes.now)) p ∙ until_found c.args.mark c.args.bytes.now

@@ -1,7 +1,7 @@
-use Rattle.std.proofs.Common.{◌≡◌, suc, ◌-◌, ◌<◌, ◌∷◌, length, take, drop, sym, ap, ◌∙◌, arith, rules, true-eqb, false-eqb}
-use native.Mathlib.Nat.{sub-zero}
+use Rattle.std.proofs.Common.{◌≡◌, suc, ◌+◌, ◌<◌, ◌∷◌, length, take, drop, sym, ap, ◌∙◌, arith, rules, true-eqb, false-eqb, add-one}
 use Rattle.std.proofs.lemmas.List.{nil_from_length, length-drop}
 use Rattle.words.specs.Parts.{lines, until}
+use Rattle.words.proofs.Rests.{rest_after}
 use Rattle.words.proofs.Splits.{split_line}
 use Rattle.words.proofs.lines.LinesIterator.next.Goals as goal
 
@@ -16,7 +16,8 @@ returns c =
     let n = c.length_until-n.result in
     let is = c.length_until-n.ensures.value in
     let some : 0 < length rest = omega (arith, false-eqb (length rest) 0 c.if-is_empty.ensures) in
-    let line : take (until 10 rest) rest ≡ take (n - 0) rest = ap (λ k. take k rest) (sym is ∙ sym (sub-zero n)) in
-    let later : lines (drop (suc (until 10 rest)) rest) ≡ lines c.past-self.result.now = ap lines (ap (λ k. drop (suc k) rest) (sym is) ∙ sym c.past-self.ensures) in
-    let falls : length c.past-self.result.now < length rest = omega (arith, ap length c.past-self.ensures, length-drop (suc n) rest) in
-    record { steps = split_line rest some ∙ (λ i. line i ∷ later i); goes = search rules }
+    let line : take (until 10 rest) rest ≡ take n rest = ap (λ k. take k rest) (sym is) in
+    let later : c.unwrap_or_default-self.result.now ≡ drop (n + 1) rest = rest_after rest (n + 1) c.get.result c.unwrap_or_default-self.result c.get.ensures.lookup c.unwrap_or_default-self.ensures in
+    let on : lines (drop (suc (until 10 rest)) rest) ≡ lines c.unwrap_or_default-self.result.now = ap lines (ap (λ k. drop (suc k) rest) (sym is) ∙ sym (later ∙ ap (λ k. drop k rest) (add-one n))) in
+    let falls : length c.unwrap_or_default-self.result.now < length rest = omega (arith, ap length later, length-drop (n + 1) rest) in
+    record { steps = split_line rest some ∙ (λ i. line i ∷ on i); goes = search rules }
