@@ -1,6 +1,5 @@
 -- What a new movement does to the holdings.
 use Rattle.std.proofs.Common.{◌≡◌, ℕ, ◌+◌, ◌*◌, ◌<◌, ◌≤◌, ◌⊎◌, true, cond, List, length, get_or, set, ℤ, pos, ◌+ℤ◌, nat_abs, sym, refl, ap, ◌∙◌, inl, inr, arith, w64, SFits, to_z, of_z}
-use Rattle.std.proofs.lemmas.Nat.{mul-add-lt}
 use Rattle.std.proofs.lemmas.List.{get_or-set_same, get_or-set_other, get_or_default}
 use Rattle.std.proofs.lemmas.Int.{to_z-of_z}
 use Rattle.std.proofs.lemmas.Bool.{cases_eq, and_parts, ltb-true, cond-true}
@@ -18,10 +17,6 @@ within_parts m n a s e = let p = and_parts _ _ e in (ltb-true a m p.0, ltb-true 
 
 pub is_within : (m n a s : ℕ) → a < m → s < n → within m n a s ≡ true
 is_within m n a s la ls = grind (arith, nat_tests)
-
--- The index of a line lies below the number of lines.
-pub index_below : (m n a s : ℕ) → a < m → s < n → a * n + s < m * n
-index_below m n a s la ls = omega (arith, mul-add-lt a n s m la ls)
 
 -- A movement that makes v of the opening settles it.
 pub settles : (o p v : ℕ) (r : ℤ) → p ≡ o → (pos p +ℤ r) ≡ pos v → o ≤ the_cap → v ≤ the_cap → Settled o r × (net o r ≡ v)

@@ -9,7 +9,7 @@ use Rattle.register.specs.Holdings.{Holdings, Inside, the_cap}
 use Rattle.register.proofs.Changed.{same_holdings}
 use Rattle.image.specs.Image.{imaged}
 use Rattle.image.specs.Zero.{imaged_outside}
-use Rattle.movement.specs.Moved.{net, still, within, moved, Settled, FreeSettled, ReservedSettled}
+use Rattle.movement.specs.Moved.{net, still, within, moved}
 use Rattle.movement.specs.declared.numbers.Movement.{Movement}
 use Rattle.movement.specs.Opening.{AccountFits, Acceptable, nothing}
 use Rattle.movement.proofs.Movements.{is_within}
@@ -43,16 +43,6 @@ module _ (o : Holdings) (outside : (a s : ℕ) → (Inside o a s → ⊥) → (o
   module _ (ms : List Movement) (zeros : (k : ℕ) → get_or ms k still ≡ still) where
     start : (part : Movement → ℤ) → part still ≡ pos 0 → (x k : ℕ) → net x (part (get_or ms k still)) ≡ x
     start part none x k = ap (λ y. nat_abs (pos x +ℤ part y)) (zeros k) ∙ (ap (λ z. nat_abs (pos x +ℤ z)) none ∙ ap nat_abs (+ℤ_idr (pos x)))
-
-    settled_start : (part : Movement → ℤ) → part still ≡ pos 0 → (x k : ℕ) → x ≤ the_cap → Settled x (part (get_or ms k still))
-    settled_start part none x k le =
-        (le, ap (λ y. pos x +ℤ part y) (zeros k) ∙ (ap (λ z. pos x +ℤ z) none ∙ (+ℤ_idr (pos x) ∙ ap pos (sym (start part none x k)))), omega (arith, start part none x k))
-
-    pub free_start : Acceptable o → FreeSettled o o.accounts o.securities ms
-    free_start fit l w = settled_start (λ x. x.free) refl (o.free l.0 l.1) (l.0 * o.securities + l.1) (fit.2 l.0 l.1).0
-
-    pub reserved_start : Acceptable o → ReservedSettled o o.accounts o.securities ms
-    reserved_start fit l w = settled_start (λ x. x.reserved) refl (o.reserved l.0 l.1) (l.0 * o.securities + l.1) (fit.2 l.0 l.1).1
 
     out : (a s : ℕ) → within o.accounts o.securities a s ≡ false → Inside o a s → ⊥
     out a s e p =

@@ -18,16 +18,18 @@ AllowedKind Debit l q h = Debitable h l.account l.security q
 AllowedKind Hold l q h = Holdable h l.account l.security q
 AllowedKind Release l q h = Releasable h l.account l.security q
 
+-- The holdings allow the change.
 abbrev pub Allowed : Change → Holdings → Type 0
 Allowed x h = AllowedKind x.kind x.line x.shares h
 
--- What it makes of them.
+-- What a change of this kind makes of them.
 abbrev pub changed_kind : Kind → Line → ℕ → Holdings → Holdings
 changed_kind Credit l q h = credited h l.account l.security q
 changed_kind Debit l q h = debited h l.account l.security q
 changed_kind Hold l q h = held h l.account l.security q
 changed_kind Release l q h = released h l.account l.security q
 
+-- What the change makes of them.
 abbrev pub changed : Change → Holdings → Holdings
 changed x h = changed_kind x.kind x.line x.shares h
 
