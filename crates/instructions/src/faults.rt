@@ -19,6 +19,7 @@ pub enum ProgramFault {
     TooLarge,
 }
 
+// No discriminant: the other fault brings a number of its own.
 const TOO_LARGE: u64 = 6;
 
 impl ProgramFault {

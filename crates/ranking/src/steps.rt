@@ -8,6 +8,7 @@ use ordered::order::Ranked;
 use std::fmt;
 
 /// What can be done with a list.
+// A step is a value and not a closure, since it is printed beside its answer.
 #[derive(Clone, Copy)]
 pub enum Step<T> {
     Put(T),

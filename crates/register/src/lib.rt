@@ -18,6 +18,7 @@ pub struct Refused;
 ///
 /// Questions alter nothing. A change is refused exactly when its line is outside the counts, the number that it lowers is too
 /// small, or the number that it raises would pass the cap. It then changes nothing; accepted, it touches no other number.
+// A line is two numbers and no record: holdings are functions of the two, and so each clause names them apart.
 pub trait Register {
     // The counts, and the numbers of each line.
     ghost holdings: { Self → Holdings };

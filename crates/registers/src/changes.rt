@@ -13,6 +13,7 @@ pub struct Line {
 }
 
 /// What a change makes of a line.
+// A kind is a value and not a method of the register, since it is printed.
 #[derive(Clone, Copy)]
 pub enum Kind {
     Credit,

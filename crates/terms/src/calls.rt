@@ -3,6 +3,8 @@ ghost use Rattle.std.specs.Prelude.{◌≡◌};
 ghost use Rattle.terms.specs.Numbers.{refusal_number};
 
 /// A call, with its operands in the order in which they are given.
+// A call is a value and not a closure: it is read from a line, and stands in the journal. Its operands are numbers, a kind's too,
+// since any number may be asked, and one that is no kind's is refused.
 #[derive(Clone, Copy)]
 pub enum Call {
     Admit {

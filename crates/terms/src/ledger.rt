@@ -1,4 +1,4 @@
-//! The plain ledger of a book.
+//! The plain ledger of a book. Its lists stand in fixed arrays, since no call may want memory.
 use crate::records::{Agent, BorrowingRequest, LendingRequest, Loan, Security};
 
 /// The open requests, each list in its order, and how many update numbers were given.
@@ -17,6 +17,8 @@ pub struct Loans {
 }
 
 /// All that a book keeps beside its register. It was `opened` if its register was fit and its day in range.
+// `opened` is a field and not an option of the rest, since a book that was not opened has its day and its register all the same. That
+// a ledger is in order is said by contracts and not by its type: a deposit, or whether two requests match, is asked of any ledger.
 #[derive(Drop)]
 pub struct Ledger {
     pub opened: bool,

@@ -99,6 +99,8 @@ pub struct Request {
     pub duration: u64,
 }
 
+// The two requests are two types, since each has an order of its own.
+
 /// A request to lend.
 // Lending and borrowing requests are two types, since their lists have two orders.
 #[derive(Clone, Copy)]
