@@ -5,7 +5,7 @@ ghost use Rattle.definitions.specs.Sound.{Kempt};
 ghost use Rattle.definitions.specs.States.{kept_of};
 
 use crate::stakes::stake;
-use register::CAP;
+use register::add_within_cap;
 use terms::calls::Refusal;
 use terms::ledger::Ledger;
 
@@ -17,9 +17,7 @@ pub fn pledge(ledger: &mut Ledger, agent: u64, kind: u64, cents: u64) -> Result<
 {
     let (agent, kind) = stake(ledger, agent, kind, cents)?;
     let pledged = ledger.agents[agent].cents[kind.number()];
-    if pledged + cents > CAP {
-        return Err(Refusal::OverCap);
-    }
-    ledger.agents[agent].cents[kind.number()] = pledged + cents;
+    let pledged = add_within_cap(pledged, cents).ok_or(Refusal::OverCap)?;
+    ledger.agents[agent].cents[kind.number()] = pledged;
     Ok(())
 }

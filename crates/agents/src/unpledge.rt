@@ -7,7 +7,7 @@ ghost use Rattle.definitions.specs.States.{kept_of};
 use crate::stakes::stake;
 use collateral::cover::covers;
 use register::CAP;
-use tariff::cover::weight;
+use tariff::cover::kind_points;
 use terms::calls::Refusal;
 use terms::ledger::Ledger;
 
@@ -19,8 +19,7 @@ pub fn unpledge(ledger: &mut Ledger, agent: u64, kind: u64, cents: u64) -> Resul
 {
     let (agent, kind) = stake(ledger, agent, kind, cents)?;
     let pledged = ledger.agents[agent].cents[kind.number()];
-    let points = u128::from(cents) * u128::from(weight(kind));
-    if cents > pledged || !covers(ledger, agent, points) {
+    if cents > pledged || !covers(ledger, agent, kind_points(cents, kind)) {
         return Err(Refusal::Uncovered);
     }
     ledger.agents[agent].cents[kind.number()] = pledged - cents;

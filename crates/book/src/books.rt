@@ -30,7 +30,7 @@ pub struct Book<R: Register, C: Calendar> {
     calendar: C,
     ledger: Ledger,
     // The register and the ledger stand together.
-    ghost upheld: { Upheld (R.holdings register) ledger } by { Prim.hlevel props },
+    pub ghost upheld: { Upheld (R.holdings register) ledger } by { Prim.hlevel props },
 }
 
 impl<R: Register, C: Calendar> Book<R, C> {

@@ -28,12 +28,7 @@ fn is_fit<R: Register>(register: &R) -> bool
     if accounts < 1 || accounts > MOST_ACCOUNTS || securities < 1 || securities > MOST_SECURITIES {
         return false;
     }
-    for security in 0..securities {
-        if !is_security_fit(register, security) {
-            return false;
-        }
-    }
-    true
+    (0..securities).all(|security| is_security_fit(register, security))
 }
 
 // Whether a book may be opened on the register and the day.

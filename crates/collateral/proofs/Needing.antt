@@ -1,6 +1,7 @@
 -- The need of one exposure is in range.
-use Rattle.std.proofs.Common.{◌≡◌, ℕ, ◌^◌, ◌≤◌, Some, None, sym, ◌∙◌, mul-le-mul, arith}
+use Rattle.std.proofs.Common.{Option, refl, ◌≡◌, ℕ, ◌^◌, ◌≤◌, Some, None, sym, ◌∙◌, mul-le-mul, arith}
 use Rattle.std.proofs.ByRecursion.{All-get_or}
+use Rattle.std.specs.Option.{IsSome}
 use Rattle.std.proofs.lemmas.Bool.{cond-true, lt-ltb, eq-eqb}
 use Rattle.tariff.specs.Words.{in_word}
 use Rattle.terms.specs.declared.records.Exposure.{Exposure}
@@ -21,8 +22,9 @@ module _ (k : Kept) (ranged : Ranged k) (g : ℕ) (e : Exposure) (fits : Exposur
   in-word : in_word needs ≡ Some needs
   in-word = cond-true _ _ _ (lt-ltb needs (2 ^ 64) (omega (arith, need_most)))
 
-  pub need_held : None ≡ in_word needs → ⊥
-  need_held h = let w = in-word in let z : ◌≡◌ {A = ℕ} 0 1 = cc in omega arith
+  pub need_held : (o : Option ℕ) → o ≡ in_word needs → IsSome o
+  need_held None h = let w = in-word in let z : ◌≡◌ {A = ℕ} 0 1 = cc in absurd (omega arith)
+  need_held (Some n) h = refl
 
   module _ (n : ℕ) (h : Some n ≡ in_word needs) where
     is : n ≡ needs

@@ -23,10 +23,7 @@ fn need_for(ledger: &Ledger, agent: usize, exposure: Exposure) -> u64
         return 0;
     }
     let price = ledger.securities[exposure.security].price.unwrap_or(0);
-    let Some(points) = need(exposure.quantity, price) else {
-        unreachable()
-    };
-    points
+    need(exposure.quantity, price).unwrap()
 }
 
 // What an agent needs for the records in a list's places.

@@ -7,7 +7,7 @@ ghost use Rattle.definitions.specs.States.{state};
 
 use crate::totals::total_within_cap;
 use questions::{is_opened, line, within};
-use register::{CAP, Register};
+use register::{CAP, Register, add_within_cap};
 use terms::calls::Refusal;
 use terms::ledger::Ledger;
 
@@ -28,9 +28,7 @@ pub fn deposit<R: Register>(
     let (account, security) = line(register, account, security)?;
     within(quantity, 1, CAP)?;
     let total = total_within_cap(register, security).ok_or(Refusal::OverCap)?;
-    if total + quantity > CAP {
-        return Err(Refusal::OverCap);
-    }
+    add_within_cap(total, quantity).ok_or(Refusal::OverCap)?;
     register.credit(account, security, quantity).unwrap();
     Ok(())
 }

@@ -2,14 +2,7 @@
 ghost use Rattle.std.specs.Prelude.{◌≡◌, ◌+◌, if◌then◌else◌, Some, None, ◌==◌, nat_le};
 ghost use Rattle.register.specs.Holdings.{sum_reserved, the_cap, total_of};
 
-use register::{CAP, Register};
-
-// The sum and so many more shares: `None` where they pass the cap.
-fn add_within_cap(sum: u64, shares: u64) -> Option<u64>
-    ensures { result ≡ (if nat_le (sum + shares) the_cap then Some (sum + shares) else None) }
-{
-    sum.checked_add(shares).filter(|sum| *sum <= CAP)
-}
+use register::{Register, add_within_cap};
 
 /// The free and reserved shares of a security over all accounts: `None` where they pass the cap.
 pub fn total_within_cap<R: Register>(register: &R, security: usize) -> Option<u64>

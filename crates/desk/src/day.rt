@@ -26,7 +26,7 @@ fn answer_run(heap: Global, text: &[u8], day: u64, calls: &[Call]) -> Result<Str
     let mut bytes = zero_image(heap)?;
     let register = ImageRegister::new(bytes.as_mut_slice());
 
-    // Not by `map_err`: the checker makes no proof of a closure that is handed a register which borrows.
+    // Not by `map_err` or `or`: what is run holds a borrowed register, which the checker does not follow through them.
     match run(heap, register, WeekdayCalendar::new(&[]), day, calls) {
         Ok(finished) => reply_all(heap, text, finished.journal.as_slice()),
         Err(_) => Err(AllocError),

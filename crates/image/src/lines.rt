@@ -16,7 +16,8 @@ const HEADER: usize = 4;
 
 const NUMBER: usize = 8;
 
-// The counts of the header, or 0 where the bytes are too few for them: 0 and not `None`, since the image of such bytes has no lines.
+// The counts of the header, or 0 where the bytes are too few for them: 0 and not `None`, since the image of such bytes has no
+// lines.
 pub(crate) fn counts_in(bytes: &[u8]) -> Counts
     ensures accounts { result.accounts ≡ accounts_of bytes.now }
     ensures securities { result.securities ≡ securities_of bytes.now }

@@ -25,7 +25,7 @@ impl<'a> Numbers for ImageRegister<'a> {
         ))
     }
 
-    // The two settings differ in the place alone, and one function for both would have to be given it by a closure.
+    // Two settings and not one of both numbers: a credit or a debit says nothing of the reserved one.
     fn set_free(&mut self, _key: ImageKey, account: usize, security: usize, number: u64) {
         let bytes = &mut *self.bytes;
         if let Some(line) = find_line(bytes, account, security) {

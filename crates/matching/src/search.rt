@@ -17,7 +17,8 @@ pub struct Places {
     pub borrowing: usize,
 }
 
-// Whether a place holds a partner of a borrowing request. Not by `is_some_and`: it is not proved what its closure says for every h.
+// Whether a place holds a partner of a borrowing request. Not by `is_some_and`: what its closure says is not
+// proved for every holdings.
 fn is_partner(ledger: &Ledger, place: &Option<LendingRequest>, borrowing: &BorrowingRequest) -> bool
     ensures { (h : Holdings) → Decides result (Meets (state h ledger.now) place.now borrowing.now) }
 {

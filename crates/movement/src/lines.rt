@@ -42,8 +42,7 @@ impl<'a> Numbers for MovementRegister<'a> {
         ))
     }
 
-    // The two settings differ in the number alone, and one function for both would have to be given it twice: in the opening, and in
-    // the movement.
+    // Two settings and not one of both numbers: a credit or a debit says nothing of the reserved one.
     fn set_free(&mut self, _key: MovementKey, account: usize, security: usize, number: u64) {
         if let Some(index) = self.place(account, security) {
             self.movements[index].free = towards(self.opening.free(account, security), number);

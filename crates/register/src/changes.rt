@@ -2,7 +2,7 @@
 ghost use Rattle.std.specs.Prelude.{◌≡◌, ◌+◌, ◌-◌, ◌≤◌, ◌⊎◌, MatchOption, MatchResult};
 ghost use Rattle.register.specs.Holdings.{Changes, Creditable, Debitable, Frame, Holdable, Holdings, Inside, Releasable, credited, debited, held, released, the_cap, with_free, with_reserved};
 
-use crate::{CAP, Refused};
+use crate::{Refused, add_within_cap};
 
 /// The numbers of a register's lines, which whoever has the key can set. A register gives its key to nobody, so that its users
 /// make no change but the four below.
@@ -35,22 +35,14 @@ pub trait Numbers {
         ensures frame { frame self.new ≡ frame self.old };
 }
 
-// The number with the shares added: refused above the cap.
-fn raised(number: u64, shares: u64) -> Result<u64, Refused>
-    ensures { MatchResult result (λ more. (more ≡ number + shares) × (more ≤ the_cap)) (λ _. number + shares ≤ the_cap → ⊥) }
-{
-    number
-        .checked_add(shares)
-        .filter(|more| *more <= CAP)
-        .ok_or(Refused)
-}
-
 // The number with the shares taken off: refused where there are fewer.
 fn lowered(number: u64, shares: u64) -> Result<u64, Refused>
     ensures { MatchResult result (λ less. (less ≡ number - shares) × (shares ≤ number)) (λ _. shares ≤ number → ⊥) }
 {
     number.checked_sub(shares).ok_or(Refused)
 }
+
+// The four are four functions, since each is a rule of its own.
 
 /// Raises the line's free number.
 pub fn credit<N: Numbers>(
@@ -64,7 +56,7 @@ pub fn credit<N: Numbers>(
     ensures frame { N.frame numbers.new ≡ N.frame numbers.old }
 {
     let (free, _) = numbers.line(account, security).ok_or(Refused)?;
-    let free = raised(free, shares)?;
+    let free = add_within_cap(free, shares).ok_or(Refused)?;
     numbers.set_free(key, account, security, free);
     Ok(())
 }
@@ -99,7 +91,7 @@ pub fn hold<N: Numbers>(
 {
     let (free, reserved) = numbers.line(account, security).ok_or(Refused)?;
     let free = lowered(free, shares)?;
-    let reserved = raised(reserved, shares)?;
+    let reserved = add_within_cap(reserved, shares).ok_or(Refused)?;
     numbers.set_free(key, account, security, free);
     numbers.set_reserved(key, account, security, reserved);
     Ok(())
@@ -117,7 +109,7 @@ pub fn release<N: Numbers>(
     ensures frame { N.frame numbers.new ≡ N.frame numbers.old }
 {
     let (free, reserved) = numbers.line(account, security).ok_or(Refused)?;
-    let free = raised(free, shares)?;
+    let free = add_within_cap(free, shares).ok_or(Refused)?;
     let reserved = lowered(reserved, shares)?;
     numbers.set_free(key, account, security, free);
     numbers.set_reserved(key, account, security, reserved);

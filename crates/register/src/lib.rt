@@ -1,14 +1,21 @@
 //! Share registers: what a register holds, and what it promises of each question and each change.
 #![tactic(auto)]
 
-ghost use Rattle.std.specs.Prelude.{◌≡◌};
-ghost use Rattle.register.specs.Holdings.{Changes, Creditable, Debitable, Frame, Holdable, Holdings, Outside, Releasable, credited, debited, held, released};
+ghost use Rattle.std.specs.Prelude.{◌≡◌, ◌+◌, if◌then◌else◌, Some, None, nat_le};
+ghost use Rattle.register.specs.Holdings.{Changes, Creditable, Debitable, Frame, Holdable, Holdings, Outside, Releasable, credited, debited, held, released, the_cap};
 
 pub mod changes;
 pub mod theorems;
 
 /// No number is raised above this many shares.
 pub const CAP: u64 = 1_000_000_000_000;
+
+/// The number with the shares added: `None` above the cap.
+pub fn add_within_cap(number: u64, shares: u64) -> Option<u64>
+    ensures { result ≡ (if nat_le (number + shares) the_cap then Some (number + shares) else None) }
+{
+    number.checked_add(shares).filter(|sum| *sum <= CAP)
+}
 
 /// A change was refused, and has changed nothing.
 #[derive(Clone, Copy, PartialEq, Eq)]

@@ -43,8 +43,8 @@ pub fn weight(kind: Kind) -> u64
     }
 }
 
-// The points of the cents of one kind.
-fn kind_points(cents: u64, kind: Kind) -> u128
+/// The points of the cents of one kind.
+pub fn kind_points(cents: u64, kind: Kind) -> u128
     ensures { result ≡ cents * weight_of kind }
 {
     u128::from(cents) * u128::from(weight(kind))

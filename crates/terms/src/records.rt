@@ -49,6 +49,7 @@ impl TryFrom<u64> for Kind {
     ghost try_from_gives = { λ number found. found ≡ ok_or (kind_of number) Unknown };
 
     fn try_from(number: u64) -> Result<Kind, Refusal> {
+        // No derive makes a variant of a number.
         match number {
             0 => Ok(Kind::Cash),
             1 => Ok(Kind::Bills),
@@ -98,8 +99,6 @@ pub struct Request {
     pub sharing: Sharing,
     pub duration: u64,
 }
-
-// The two requests are two types, since each has an order of its own.
 
 /// A request to lend.
 // Lending and borrowing requests are two types, since their lists have two orders.

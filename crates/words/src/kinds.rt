@@ -50,7 +50,7 @@ impl<'a> Word<'a> {
         }
     }
 
-    // Here and below, a method for each kind, since a function cannot be given a variant to match.
+    // A method for each kind: a function cannot be given a variant to match, and a macro writes no contract.
 
     // The verb that the word is.
     pub(crate) fn as_verb(self) -> Option<Verb>
