@@ -20,6 +20,7 @@ use Rattle.definitions.specs.Standings.{at_noon, noon_asks, noon_does, suspended
 use Rattle.definitions.specs.States.{Kept, agent_in, is_notified, kept_of, map_from, no_agent, with_agents}
 use Rattle.definitions.proofs.Ranges.{event_ranged, ranged_agents}
 use Rattle.definitions.proofs.Tables.{at_from, length_from}
+use Rattle.agents.proofs.Tables.{with_table}
 
 -- What calls at each number gave, where each leaves the closure as it was.
 given : {F B : Type 0} (g : Mut F (ℕ × Unit {0}) B) (f : F) (ys : List B) (h : ℕ → B) → ((i : ℕ) (y : B) (q : F) → Called g f (i, tt) y q → (q ≡ f) × (y ≡ h i))
@@ -90,13 +91,13 @@ module _ (l : Ledger) (kempt : Kempt l) where
       p.behind j (omega (arith, p.long))
       ∙ sym (at_from (at_noon k) 0 l.agents j no_agent no_agent (omega (arith, p.long, kempt.ranged.agents)) ∙ ap (λ m. at_noon k m (agent_in k j)) z))
 
-  pub kempt_passed : (ys : List Agent) → Passing k ys agent_count → Kempt (record { opened = l.opened; today = l.today; securities = l.securities; agents = ys; requests = l.requests; loans = l.loans })
+  pub kempt_passed : (ys : List Agent) → Passing k ys agent_count → Kempt (with_table l ys)
   kempt_passed ys p = record {
     neat = record { lending = kempt.neat.lending; borrowing = kempt.neat.borrowing; loans = kempt.neat.loans };
     ranged = ranged_agents k kempt.ranged ys p.long (subst (Each AgentRanged) (sym (all_passed ys p)) (ranged k 0 l.agents kempt.ranged.collateral));
   }
 
   pub step_passed : l.opened ≡ true → (ys : List Agent) → Passing k ys agent_count → (n : ℕ) → n ≡ suspensions k
-      → Step (noon_asks k) (suspensions k) (noon_does k) k (kept_of (record { opened = l.opened; today = l.today; securities = l.securities; agents = ys; requests = l.requests; loans = l.loans })) (Ok n)
+      → Step (noon_asks k) (suspensions k) (noon_does k) k (kept_of (with_table l ys)) (Ok n)
   step_passed opened ys p n count =
       record { answers = rw (opened, count) refl; leaves = ap (with_agents k) (all_passed ys p) }
