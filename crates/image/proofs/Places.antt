@@ -67,6 +67,18 @@ module _ (bs cs : List ℕ) (at v : ℕ) (st : Stored bs cs at v) (behind : 4 �
   reserved_at_same : (b t : ℕ) → reserved_place cs b t ≡ reserved_place bs b t
   reserved_at_same b t = rw (accounts_same, securities_same)
 
+  found_same : (a s : ℕ) (l : Line) → Found bs a s l → Found cs a s l
+  unfolding imaged
+  found_same a s l f =
+      record {
+        account = omega (arith, accounts_same, f.account);
+        security = omega (arith, securities_same, f.security);
+        free_at = f.free_at ∙ sym (free_at_same a s);
+        reserved_at = f.reserved_at ∙ sym (reserved_at_same a s);
+        free_room = omega (arith, st.len, f.free_room);
+        reserved_room = omega (arith, st.len, f.reserved_room);
+      }
+
   size_same : size_of cs ≡ size_of bs
   size_same = rw (header_accounts, header_securities)
 
@@ -157,6 +169,9 @@ module _ (bs : List ℕ) (a s : ℕ) (l : Line) (f : Found bs a s l) where
         let r = room bs a s f.account f.security in
         ap (λ (rest : List ℕ). record { lender = lender; beyond = rest }) (beyond_same bs cs l.free_at v st (omega (arith, f.free_at)) (enough bs a f.account) (omega (arith, f.free_at)))
 
+    pub set_free_stays : Stored bs cs l.free_at v → Found cs a s l
+    set_free_stays st = found_same bs cs l.free_at v st (omega (arith, f.free_at)) a s l f
+
     pub set_reserved_after : Stored bs cs l.reserved_at v → imaged cs ≡ with_reserved (imaged bs) a s v
     set_reserved_after st = stored_reserved bs cs a s v (f.account, f.security) (rw f.reserved_at at st)
 
@@ -165,3 +180,6 @@ module _ (bs : List ℕ) (a s : ℕ) (l : Line) (f : Found bs a s l) where
     set_reserved_frame st lender =
         let r = room bs a s f.account f.security in
         ap (λ (rest : List ℕ). record { lender = lender; beyond = rest }) (beyond_same bs cs l.reserved_at v st (omega (arith, f.reserved_at)) (enough bs a f.account) (omega (arith, f.reserved_at)))
+
+    pub set_reserved_stays : Stored bs cs l.reserved_at v → Found cs a s l
+    set_reserved_stays st = found_same bs cs l.reserved_at v st (omega (arith, f.reserved_at)) a s l f
