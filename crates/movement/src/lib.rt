@@ -29,12 +29,19 @@ impl<'a> MovementRegister<'a> {
         ensures { IfOk result (λ x. Opened (image_of opening.entry) (holdings_of x)) }
     {
         let opening = taken(opening);
+        let accounts = opening.accounts();
+        let securities = opening.securities();
         let still = Movement {
             free: 0,
             reserved: 0,
         };
-        let movements = vec![in heap; still; opening.accounts() * opening.securities()]?;
-        Ok(MovementRegister { opening, movements })
+        let movements = vec![in heap; still; accounts * securities]?;
+        Ok(MovementRegister {
+            opening,
+            accounts,
+            securities,
+            movements,
+        })
     }
 }
 
@@ -46,20 +53,25 @@ impl<'a> Register for MovementRegister<'a> {
     ghost outside = { λ x a s h. moved_outside x a s h };
 
     fn accounts(&self) -> usize {
-        self.opening.accounts()
+        self.accounts
     }
 
     fn securities(&self) -> usize {
-        self.opening.securities()
+        self.securities
     }
 
     fn free(&self, account: usize, security: usize) -> u64 {
-        self.line(account, security).map_or(0, |(free, _)| free)
+        match self.line(account, security) {
+            Some(line) => self.free_of(line),
+            None => 0,
+        }
     }
 
     fn reserved(&self, account: usize, security: usize) -> u64 {
-        self.line(account, security)
-            .map_or(0, |(_, reserved)| reserved)
+        match self.line(account, security) {
+            Some(line) => self.reserved_of(line),
+            None => 0,
+        }
     }
 
     fn credit(&mut self, account: usize, security: usize, shares: u64) -> Result<(), Refused> {
