@@ -29,19 +29,12 @@ impl<'a> MovementRegister<'a> {
         ensures { IfOk result (λ x. Opened (image_of opening.entry) (holdings_of x)) }
     {
         let opening = taken(opening);
-        let accounts = opening.accounts();
-        let securities = opening.securities();
         let still = Movement {
             free: 0,
             reserved: 0,
         };
-        let movements = vec![in heap; still; accounts * securities]?;
-        Ok(MovementRegister {
-            opening,
-            accounts,
-            securities,
-            movements,
-        })
+        let movements = vec![in heap; still; opening.accounts() * opening.securities()]?;
+        Ok(MovementRegister { opening, movements })
     }
 }
 
@@ -53,13 +46,14 @@ impl<'a> Register for MovementRegister<'a> {
     ghost outside = { λ x a s h. moved_outside x a s h };
 
     fn accounts(&self) -> usize {
-        self.accounts
+        self.opening.accounts()
     }
 
     fn securities(&self) -> usize {
-        self.securities
+        self.opening.securities()
     }
 
+    // The next two not by `map_or`: what its closure says of the line is not proved.
     fn free(&self, account: usize, security: usize) -> u64 {
         match self.line(account, security) {
             Some(line) => self.free_of(line),

@@ -26,10 +26,11 @@ impl<'a> MovementRegister<'a> {
     fn place(&self, account: usize, security: usize) -> Option<usize>
         ensures { MatchOption result (Inside (holdings_of self.now) account security → ⊥) (λ i. Placed (image_of self.now.opening).accounts (image_of self.now.opening).securities account security i) }
     {
-        if account >= self.accounts || security >= self.securities {
+        let securities = self.opening.securities();
+        if account >= self.opening.accounts() || security >= securities {
             return None;
         }
-        Some(account * self.securities + security)
+        Some(account * securities + security)
     }
 }
 

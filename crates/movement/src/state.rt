@@ -12,10 +12,7 @@ use image::Image;
 #[derive(Drop)]
 pub struct MovementRegister<'a> {
     pub(crate) opening: Image<'a>,
-    pub(crate) accounts: usize,
-    pub(crate) securities: usize,
     pub(crate) movements: Vec<Movement>,
-    ghost counts: { (accounts ≡ (image_of opening).accounts) × (securities ≡ (image_of opening).securities) },
     ghost acceptable: { Acceptable (image_of opening) },
     ghost len: { length movements.items ≡ (image_of opening).accounts * (image_of opening).securities },
     ghost free: { FreeSettled (image_of opening) (image_of opening).accounts (image_of opening).securities movements.items },

@@ -17,7 +17,7 @@ invariant_of-self c =
     let within_cap = reserved_bound (image_of x.opening) _ _ c.args.line.account c.args.line.security c.args.number x.movements.items p.account p.security x.reserved c.requires.bound in
     let fits : SFits w64 c.towards-movement.result = search rules in
     let all = settled_reserved (image_of x.opening) _ _ _ _ _ x.movements.items c.index_mut.result.now x.len c.requires.found c.index_mut.ensures.value c.towards-movement.result _ c.args.number fits c.towards-movement.ensures within_cap x.free x.reserved c.reserved.ensures (x.acceptable.2 c.args.line.account c.args.line.security).1 in
-    record { counts = x.counts; acceptable = x.acceptable; len = simp length-set x.len; free = all.0; reserved = all.1 }
+    record { acceptable = x.acceptable; len = simp length-set x.len; free = all.0; reserved = all.1 }
 
 pub returns-clause-number : goal.returns-clause-number
 returns-clause-number c =
