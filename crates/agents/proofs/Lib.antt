@@ -1,1 +1,3 @@
+mod KindNumbers
 mod Middays
+mod Tables

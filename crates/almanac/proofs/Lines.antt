@@ -1,10 +1,11 @@
 -- The entries of all days, and their lines.
-use Rattle.std.proofs.Common.{◌≡◌, ℕ, zero, suc, ◌+◌, ◌<◌, false, List, ◌∷◌, ◌++◌, map, length, get_or, Some, None, refl, ap, ◌∙◌, add-one, arith}
+use Rattle.std.proofs.Common.{◌≡◌, ℕ, zero, suc, ◌+◌, ◌<◌, ◌≤◌, false, List, ◌∷◌, ◌++◌, map, length, get_or, Some, None, Option, codes, decimal, refl, sym, ap, ◌∙◌, ⊎_elim, add-one, arith}
 use Rattle.std.specs.List.{cons_option, filter_map, range_with_len}
-use Rattle.std.proofs.lemmas.Bool.{cond-true, eq-eqb, le-leb, not_from_true}
+use Rattle.std.proofs.lemmas.Bool.{cases_lt, cond-true, cond-false, eq-eqb, ne_eqb, le-leb, lt-leb, not_from_true}
+use Rattle.std.proofs.lemmas.Option.{none-some}
 use Rattle.std.proofs.lemmas.List.FromFn.{length-map-range_with_len, get_or-map-range_with_len}
 use Rattle.days.specs.Dates.{last_day}
-use Rattle.almanac.specs.Almanac.{entry_at, entry_of, differs, line_text, lines_before}
+use Rattle.almanac.specs.Almanac.{again_text, entry_at, entry_of, differs, line_text, lines_before}
 use Rattle.almanac.specs.declared.entry.Entry.{Entry}
 
 -- The entries of n days from the day a on, none of them past the last.
@@ -25,6 +26,21 @@ pub get_or-entries : (n : ℕ) (e : Entry) → (n < length entries) × (e ≡ ge
 get_or-entries n e h =
     h.1 ∙ ap (λ es. get_or es n e) (entries_lem (last_day + 1) 0 refl)
     ∙ get_or-map-range_with_len entry_at 0 (last_day + 1) n n e (omega (arith, h.0, length-entries)) (omega arith)
+
+-- What a line says of a day that does not come back.
+pub other_text : (d n : ℕ) (o : Option ℕ) → o ≡ Some n → (n ≡ d → ⊥) → decimal n ++ codes " differs" ≡ again_text d o
+other_text d n o e ne = sym (ap (again_text d) e ∙ cond-false _ _ _ (ne_eqb n d ne))
+
+pub none_text : (d : ℕ) (o : Option ℕ) → o ≡ None → codes "none differs" ≡ again_text d o
+none_text d o e = sym (ap (again_text d) e)
+
+-- An entry is that of its day, which is not past the last.
+pub entry_at_lem : (d : ℕ) (e : Entry) → Some e ≡ entry_of d → (e ≡ entry_at d) × (d ≤ last_day)
+entry_at_lem d e p =
+    ⊎_elim
+    (λ (h : last_day < d). absurd (none-some e (sym (p ∙ cond-false _ (Some (entry_at d)) None (lt-leb d last_day h)))))
+    (λ (h : d ≤ last_day). let q = cond-true _ (Some (entry_at d)) None (le-leb d last_day h) in (cc, h))
+    (cases_lt last_day d)
 
 -- No entry differs.
 pub none_differs : (d : ℕ) (e : Entry) → e ≡ entry_at d → differs e.day e.again ≡ false

@@ -1,5 +1,5 @@
 -- A register is unfit by one of its securities.
-use Rattle.std.proofs.Common.{List, length, get_or, subst, ◌≡◌, ℕ, zero, suc, ◌<◌, ◌≤◌, Bool, true, false, ◌&&◌, eqb, leb, [], replicate, sym, refl, ap, ◌∙◌, ⊎_elim, arith}
+use Rattle.std.proofs.Common.{List, length, get_or, subst, ◌≡◌, ℕ, zero, suc, ◌+◌, ◌<◌, ◌≤◌, Bool, true, false, ◌&&◌, eqb, leb, [], replicate, sym, refl, ap, ◌∙◌, ⊎_elim, add-one, arith}
 use Rattle.std.specs.List.{AllByRecursion as Each}
 use Rattle.std.proofs.lemmas.Bool.{le-leb, and_left, and_parts, and_right, and_from, cases_eq}
 use Rattle.register.specs.Holdings.{Holdings, Inside, sum_reserved, the_cap, total_of}
@@ -24,6 +24,14 @@ one_fails (suc n) p k l e =
     (λ (s : k ≡ n). let f : p n ≡ p k = ap p (sym s) in and_left (p n) (all_below n p) (f ∙ e))
     (λ (d : k ≡ n → ⊥). and_right (p n) (all_below n p) (one_fails n p k (omega arith) e))
     (cases_eq k n)
+
+pub one_more : (n : ℕ) (p : ℕ → Bool) → all_below n p ≡ true → p n ≡ true → all_below (n + 1) p ≡ true
+one_more n p all e = rw add-one (and_from (p n) (all_below n p) e all)
+
+pub unfit : (h : Holdings) (k : ℕ) → k < h.securities → (eqb (sum_reserved h k) 0 && leb (total_of h k) the_cap) ≡ false → fit h ≡ false
+unfit h k l e =
+    and_right (within 1 most_accounts h.accounts) _
+    (and_right (within 1 most_securities h.securities) _ (one_fails h.securities (λ s. eqb (sum_reserved h s) 0 && leb (total_of h s) the_cap) k l e))
 
 all_pass : (n : ℕ) (p : ℕ → Bool) → ((k : ℕ) → k < n → p k ≡ true) → all_below n p ≡ true
 all_pass zero p each = refl

@@ -1,5 +1,5 @@
 -- Counts of business days.
-use Rattle.std.proofs.Common.{◌≡◌, ℕ, zero, suc, ◌+◌, ◌-◌, ◌<◌, ◌≤◌, Bool, true, false, cond, ◌&&◌, ltb, Some, None, Option, MatchOption, List, ◌∷◌, drop, sym, subst, refl, ap, ◌∙◌, ⊎_elim, add-zero, add-suc, add-one, arith}
+use Rattle.std.proofs.Common.{◌≡◌, ℕ, zero, suc, ◌+◌, ◌-◌, ◌<◌, ◌≤◌, Bool, true, false, cond, ◌&&◌, ltb, Some, None, Option, MatchOption, List, ◌∷◌, sym, subst, refl, ap, ◌∙◌, ⊎_elim, add-zero, add-suc, add-one, arith}
 use Rattle.std.specs.List.{filter, slice_get, range_with_len}
 use Rattle.std.specs.Option.{option_map}
 use Rattle.std.proofs.lemmas.Bool.{lt-ltb, le-ltb, cases_lt, cases_order}
@@ -80,16 +80,17 @@ module _ (b : ℕ → Bool) (t : ℕ) where
   same None = refl
   same (Some d) = refl
 
-  pub tenth_lem : (r : Option ℕ) → option_map (λ x. x) r ≡ slice_get (filter b (drop 1 (range_with_len t (last_day + 1 - t)))) 9 → Tenth b t r
-  tenth_lem r e =
+  -- The days after t begin at a; past the last day there are none.
+  pub tenth_lem : (r : Option ℕ) (a : ℕ) → (t ≤ last_day → a ≡ t + 1) → (last_day < t → last_day < a) → option_map (λ x. x) r ≡ slice_get (filter b (range_with_len a (last_day + 1 - a))) 9 → Tenth b t r
+  tenth_lem r a within past e =
       let q = sym e ∙ same r in
-      let at : ℕ → Option ℕ = λ n. slice_get (filter b (drop 1 (range_with_len t n))) 9 in
+      let at : ℕ → ℕ → Option ℕ = λ m n. slice_get (filter b (range_with_len m n)) 9 in
       to_tenth r (subst (λ o. After t 9 o) q
       (⊎_elim
       (λ (h : last_day < t).
-      let n : 0 ≡ last_day + 1 - t = omega arith in
-      subst (λ m. After t 9 (at m)) n (omega (arith, count_none b t last_day (omega arith))))
+      let n : 0 ≡ last_day + 1 - a = omega (arith, past h) in
+      subst (λ m. After t 9 (at a m)) n (omega (arith, count_none b t last_day (omega arith))))
       (λ (h : t ≤ last_day).
-      let n : suc (last_day - t) ≡ last_day + 1 - t = omega arith in
-      subst (λ m. After t 9 (at m)) n (place (last_day - t) t 9 (omega arith) (omega arith)))
+      let n : last_day - t ≡ last_day + 1 - a = omega (arith, within h) in
+      subst (λ m. After t 9 (at a m)) n (subst (λ m. After t 9 (at m (last_day - t))) (sym (within h)) (place (last_day - t) t 9 (omega arith) (omega arith))))
       (cases_lt last_day t)))

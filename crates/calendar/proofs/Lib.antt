@@ -1,2 +1,4 @@
 pub mod Counts
+mod Bits
+mod Listing
 mod Weeks

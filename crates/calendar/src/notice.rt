@@ -11,8 +11,7 @@ const TENTH: usize = 10;
 pub fn tenth_business_day<C: Calendar>(calendar: &C, today: u64) -> Option<u64>
     ensures { Tenth (C.business calendar.now) today result }
 {
-    (today..=LAST_DAY)
-        .skip(1)
+    (today.saturating_add(1)..LAST_DAY + 1)
         .filter(|day| calendar.is_business(*day))
         .nth(TENTH - 1)
 }

@@ -5,7 +5,7 @@ ghost use Rattle.definitions.specs.Questions.{Step};
 ghost use Rattle.definitions.specs.Sound.{Sound};
 ghost use Rattle.definitions.specs.States.{state};
 
-use questions::{is_opened, line, within};
+use questions::{account, is_opened, within};
 use register::{CAP, Register};
 use terms::calls::Refusal;
 use terms::ledger::Ledger;
@@ -25,8 +25,9 @@ pub fn trade<R: Register>(
     ensures frame { R.frame register.new ≡ R.frame register.old }
 {
     is_opened(ledger)?;
-    let (giver, _) = line(register, giver, security)?;
-    let (receiver, security) = line(register, receiver, security)?;
+    let giver = account(register, giver)?;
+    let receiver = account(register, receiver)?;
+    let security = questions::security(register, security)?;
     within(quantity, 1, CAP)?;
     if giver == receiver {
         return Err(Refusal::OutOfRange);

@@ -1,5 +1,5 @@
 -- What a write of one number does to the holdings in the bytes, and to what lies beyond.
-use Rattle.std.proofs.Common.{◌≡◌, ℕ, ◌+◌, ◌*◌, ◌/◌, ◌%◌, ◌<◌, ◌≤◌, Bool, true, cond, ◌⊎◌, List, length, get_or, drop, sym, ap, ◌∙◌, inl, inr, arith}
+use Rattle.std.proofs.Common.{◌≡◌, ℕ, ◌+◌, ◌*◌, ◌/◌, ◌%◌, ◌<◌, ◌≤◌, Bool, true, cond, ◌⊎◌, List, length, get_or, drop, Option, None, Some, MatchOption, sym, ap, subst, ◌∙◌, inl, inr, arith}
 use Rattle.std.proofs.lemmas.Nat.{mul-add-lt, div-mul-add, mod-mul-add}
 use Rattle.std.proofs.lemmas.List.{ext_get_or, get_or-drop, length-drop}
 use Rattle.std.proofs.lemmas.Bool.Decides.{nat_tests}
@@ -8,7 +8,7 @@ use Rattle.register.specs.Holdings.{with_free, with_reserved, Inside}
 use Rattle.register.proofs.Changed.{same_holdings}
 use Rattle.register.proofs.Sums.{is_put}
 use Rattle.image.specs.Image.{u16_at, u64_at, size_of, whole, accounts_of, securities_of, free_place, reserved_place, inside, imaged, beyond, frame_of}
-use Rattle.image.specs.Inner.{Stored, Found}
+use Rattle.image.specs.Inner.{Stored, Found, Missing}
 use Rattle.image.specs.Zero.{inside_true}
 use Rattle.image.specs.declared.lines.Line.{Line}
 
@@ -66,6 +66,18 @@ module _ (bs cs : List ℕ) (at v : ℕ) (st : Stored bs cs at v) (behind : 4 �
 
   reserved_at_same : (b t : ℕ) → reserved_place cs b t ≡ reserved_place bs b t
   reserved_at_same b t = rw (accounts_same, securities_same)
+
+  found_same : (a s : ℕ) (l : Line) → Found bs a s l → Found cs a s l
+  unfolding imaged
+  found_same a s l f =
+      record {
+        account = omega (arith, accounts_same, f.account);
+        security = omega (arith, securities_same, f.security);
+        free_at = f.free_at ∙ sym (free_at_same a s);
+        reserved_at = f.reserved_at ∙ sym (reserved_at_same a s);
+        free_room = omega (arith, st.len, f.free_room);
+        reserved_room = omega (arith, st.len, f.reserved_room);
+      }
 
   size_same : size_of cs ≡ size_of bs
   size_same = rw (header_accounts, header_securities)
@@ -140,6 +152,12 @@ module _ (bs cs : List ℕ) (a s v : ℕ) (within : Inside (imaged bs) a s) wher
       (λ b t ne. cond_same (inside cs b t) (inside bs b t) _ _ (is b t)
       (λ i. ap (u64_at cs) (reserved_at_same bs cs at v st (omega arith) b t) ∙ number_same bs cs (m + (a * n + s)) v (m + (b * n + t)) st (λ e. lines_apart n a s b t within.1 (inside_true bs b t i).1 ne (omega arith)))))
 
+-- A found line is the line of its own account and security.
+pub line_found : (bs : List ℕ) (a s : ℕ) (r : Option Line) → MatchOption r (Missing bs a s) (λ l. Found bs a s l × (l.account ≡ a) × (l.security ≡ s)) → MatchOption r (Inside (imaged bs) a s → ⊥) (λ l. Inside (imaged bs) a s × (l.account ≡ a) × (l.security ≡ s) × Found bs l.account l.security l)
+line_found bs a s None m = m.outside
+line_found bs a s (Some l) p =
+    ((p.0.account, p.0.security), p.1, p.2, subst (λ b. Found bs b l.security l) (sym p.1) (subst (λ t. Found bs a t l) (sym p.2) p.0))
+
 module _ (bs : List ℕ) (a s : ℕ) (l : Line) (f : Found bs a s l) where
   pub free_found : u64_at bs l.free_at ≡ (imaged bs).free a s
   free_found = ap (u64_at bs) f.free_at ∙ sym (imaged_free bs a s (f.account, f.security))
@@ -157,6 +175,9 @@ module _ (bs : List ℕ) (a s : ℕ) (l : Line) (f : Found bs a s l) where
         let r = room bs a s f.account f.security in
         ap (λ (rest : List ℕ). record { lender = lender; beyond = rest }) (beyond_same bs cs l.free_at v st (omega (arith, f.free_at)) (enough bs a f.account) (omega (arith, f.free_at)))
 
+    pub set_free_stays : Stored bs cs l.free_at v → Found cs a s l
+    set_free_stays st = found_same bs cs l.free_at v st (omega (arith, f.free_at)) a s l f
+
     pub set_reserved_after : Stored bs cs l.reserved_at v → imaged cs ≡ with_reserved (imaged bs) a s v
     set_reserved_after st = stored_reserved bs cs a s v (f.account, f.security) (rw f.reserved_at at st)
 
@@ -165,3 +186,6 @@ module _ (bs : List ℕ) (a s : ℕ) (l : Line) (f : Found bs a s l) where
     set_reserved_frame st lender =
         let r = room bs a s f.account f.security in
         ap (λ (rest : List ℕ). record { lender = lender; beyond = rest }) (beyond_same bs cs l.reserved_at v st (omega (arith, f.reserved_at)) (enough bs a f.account) (omega (arith, f.reserved_at)))
+
+    pub set_reserved_stays : Stored bs cs l.reserved_at v → Found cs a s l
+    set_reserved_stays st = found_same bs cs l.reserved_at v st (omega (arith, f.reserved_at)) a s l f

@@ -39,16 +39,18 @@ pub(crate) fn counts_in(bytes: &[u8]) -> Counts
     }
 }
 
-// Where the two numbers of a line stand.
+/// A line, and where its two numbers stand.
 #[derive(Clone, Copy)]
-pub(crate) struct Line {
+pub struct Line {
+    pub(crate) account: usize,
+    pub(crate) security: usize,
     pub(crate) free_at: usize,
     pub(crate) reserved_at: usize,
 }
 
-// The places of a line, or `None` outside the counts.
+// The line, or `None` outside the counts.
 pub(crate) fn find_line(bytes: &[u8], account: usize, security: usize) -> Option<Line>
-    ensures { MatchOption result (Missing bytes.now account security) (λ l. Found bytes.now account security l) }
+    ensures { MatchOption result (Missing bytes.now account security) (λ l. Found bytes.now account security l × (l.account ≡ account) × (l.security ≡ security)) }
 {
     let Counts {
         accounts,
@@ -59,6 +61,8 @@ pub(crate) fn find_line(bytes: &[u8], account: usize, security: usize) -> Option
     }
     let index = account * securities + security;
     Some(Line {
+        account,
+        security,
         free_at: HEADER + NUMBER * index,
         reserved_at: HEADER + NUMBER * (accounts * securities + index),
     })

@@ -1,8 +1,9 @@
 //! The numbers of a register in bytes, as the four changes read and set them.
 ghost use Rattle.image.specs.Image.{frame_of, imaged};
+ghost use Rattle.image.specs.Inner.{Found};
 
 use crate::ImageRegister;
-use crate::lines::find_line;
+use crate::lines::{Line, find_line};
 use crate::words::{read_u64, write_u64};
 use register::changes::Numbers;
 
@@ -17,26 +18,32 @@ impl<'a> Numbers for ImageRegister<'a> {
 
     type Key = ImageKey;
 
-    fn line(&self, account: usize, security: usize) -> Option<(u64, u64)> {
-        let line = find_line(self.bytes, account, security)?;
-        Some((
-            read_u64(self.bytes, line.free_at),
-            read_u64(self.bytes, line.reserved_at),
-        ))
+    type Line = Line;
+
+    ghost account_of = { λ line. line.account };
+
+    ghost security_of = { λ line. line.security };
+
+    ghost found = { λ x line. Found x.bytes.now line.account line.security line };
+
+    fn line(&self, account: usize, security: usize) -> Option<Line> {
+        find_line(self.bytes, account, security)
+    }
+
+    fn free_of(&self, line: Line) -> u64 {
+        read_u64(self.bytes, line.free_at)
+    }
+
+    fn reserved_of(&self, line: Line) -> u64 {
+        read_u64(self.bytes, line.reserved_at)
     }
 
     // Two settings and not one of both numbers: a credit or a debit says nothing of the reserved one.
-    fn set_free(&mut self, _key: ImageKey, account: usize, security: usize, number: u64) {
-        let bytes = &mut *self.bytes;
-        if let Some(line) = find_line(bytes, account, security) {
-            write_u64(bytes, line.free_at, number);
-        }
+    fn set_free(&mut self, _key: ImageKey, line: Line, number: u64) {
+        write_u64(self.bytes, line.free_at, number);
     }
 
-    fn set_reserved(&mut self, _key: ImageKey, account: usize, security: usize, number: u64) {
-        let bytes = &mut *self.bytes;
-        if let Some(line) = find_line(bytes, account, security) {
-            write_u64(bytes, line.reserved_at, number);
-        }
+    fn set_reserved(&mut self, _key: ImageKey, line: Line, number: u64) {
+        write_u64(self.bytes, line.reserved_at, number);
     }
 }

@@ -3,12 +3,15 @@ ghost use Rattle.std.specs.Prelude.{◌≡◌, ◌+◌, ◌<◌, ◌≤◌, leng
 ghost use Rattle.image.specs.Image.{u16_at, u64_at};
 ghost use Rattle.image.specs.Inner.{Stored};
 
-// The `N` bytes from `at` on.
+// The `N` bytes from `at` on. Copied, since the `unwrap` of a `first_chunk` stays in the program as a test, and in a loop the counts are
+// then read anew for each number.
 fn word_at<const N: usize>(bytes: &[u8], at: usize) -> [u8; N]
     requires { at + N ≤ length bytes.now }
     ensures { result ≡ slice_range bytes.now at (at + N) }
 {
-    *bytes[at..].first_chunk().unwrap()
+    let mut word = [0; N];
+    word.copy_from_slice(&bytes[at..at + N]);
+    word
 }
 
 // The number in the two bytes from `at` on.

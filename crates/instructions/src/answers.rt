@@ -43,6 +43,7 @@ impl fmt::Display for Reply {
 }
 
 /// The reply to the nth line as a line of text.
+#[tactic(auto, using(crate::proofs::Worded::numbered))]
 pub fn reply_text(heap: Global, n: usize, reply: Reply) -> Result<String, AllocError>
     ensures { IfOk result (λ s. string_bytes s ≡ reply_text n reply) }
 {

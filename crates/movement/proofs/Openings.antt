@@ -14,6 +14,12 @@ use Rattle.movement.specs.declared.numbers.Movement.{Movement}
 use Rattle.movement.specs.Opening.{AccountFits, Acceptable, nothing}
 use Rattle.movement.proofs.Movements.{is_within}
 
+pub decides_all : (P : Type 0) → P → Decides true P
+decides_all P p = (λ _. p, λ _. refl)
+
+pub decides_none : (P : Type 0) → (P → ⊥) → Decides false P
+decides_none P no_p = (λ e. absurd (let z : ◌≡◌ {A = ℕ} 0 1 = cc in omega arith), λ p. absurd (no_p p))
+
 -- What decides a fact decides one that says the same.
 pub decides_same : (r : Bool) (P Q : Type 0) → (P → Q) → (Q → P) → Decides r P → Decides r Q
 decides_same r P Q to from d = (λ e. to (d.0 e), λ q. d.1 (from q))
@@ -21,10 +27,10 @@ decides_same r P Q to from d = (λ e. to (d.0 e), λ q. d.1 (from q))
 -- A test of all numbers below n decides whether what it tests holds of each.
 pub decides_below : (n : ℕ) (P : ℕ → Type 0) (r : Bool) → MatchBool r (AllWithin P (range_with_len 0 n) 0 (length (range_with_len 0 n))) ((k : ℕ) × (k < length (range_with_len 0 n)) × HoldsAt (λ s. P s → ⊥) (range_with_len 0 n) k) → Decides r ((s : ℕ) → s < n → P s)
 decides_below n P true all =
-    (λ _ s lt. subst P (get_or-range_with_len 0 n s 0 lt ∙ zero-add s) (all s 0 (omega arith) (omega (arith, length-range_with_len 0 n))), λ _. refl)
+    decides_all ((s : ℕ) → s < n → P s) (λ s lt. subst P (get_or-range_with_len 0 n s 0 lt ∙ zero-add s) (all s 0 (omega arith) (omega (arith, length-range_with_len 0 n))))
 decides_below n P false some =
     let lt : some.0 < n = omega (arith, length-range_with_len 0 n, some.1) in
-    (λ e. absurd (let z : ◌≡◌ {A = ℕ} 0 1 = cc in omega arith), λ all. absurd (some.2 0 (subst P (sym (get_or-range_with_len 0 n some.0 0 lt ∙ zero-add some.0)) (all some.0 lt))))
+    decides_none ((s : ℕ) → s < n → P s) (λ all. some.2 0 (subst P (sym (get_or-range_with_len 0 n some.0 0 lt ∙ zero-add some.0)) (all some.0 lt)))
 
 -- A line outside the counts of o has no shares.
 module _ (o : Holdings) (outside : (a s : ℕ) → (Inside o a s → ⊥) → (o.free a s ≡ 0) × (o.reserved a s ≡ 0)) where

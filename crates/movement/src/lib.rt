@@ -53,13 +53,19 @@ impl<'a> Register for MovementRegister<'a> {
         self.opening.securities()
     }
 
+    // The next two not by `map_or`: what its closure says of the line is not proved.
     fn free(&self, account: usize, security: usize) -> u64 {
-        self.line(account, security).map_or(0, |(free, _)| free)
+        match self.line(account, security) {
+            Some(line) => self.free_of(line),
+            None => 0,
+        }
     }
 
     fn reserved(&self, account: usize, security: usize) -> u64 {
-        self.line(account, security)
-            .map_or(0, |(_, reserved)| reserved)
+        match self.line(account, security) {
+            Some(line) => self.reserved_of(line),
+            None => 0,
+        }
     }
 
     fn credit(&mut self, account: usize, security: usize, shares: u64) -> Result<(), Refused> {

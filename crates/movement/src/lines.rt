@@ -13,6 +13,14 @@ use register::changes::Numbers;
 #[derive(Clone, Copy)]
 pub struct MovementKey(pub(crate) ());
 
+/// A line, and the index of its movement.
+#[derive(Clone, Copy)]
+pub struct Line {
+    pub(crate) account: usize,
+    pub(crate) security: usize,
+    pub(crate) index: usize,
+}
+
 impl<'a> MovementRegister<'a> {
     // The index of a line, or `None` outside the counts.
     fn place(&self, account: usize, security: usize) -> Option<usize>
@@ -33,28 +41,45 @@ impl<'a> Numbers for MovementRegister<'a> {
 
     type Key = MovementKey;
 
-    fn line(&self, account: usize, security: usize) -> Option<(u64, u64)> {
+    type Line = Line;
+
+    ghost account_of = { λ line. line.account };
+
+    ghost security_of = { λ line. line.security };
+
+    ghost found = { λ x line. Placed (image_of x.opening).accounts (image_of x.opening).securities line.account line.security line.index };
+
+    fn line(&self, account: usize, security: usize) -> Option<Line> {
         let index = self.place(account, security)?;
-        let movement = self.movements[index];
-        Some((
-            after(self.opening.free(account, security), movement.free),
-            after(self.opening.reserved(account, security), movement.reserved),
-        ))
+        Some(Line {
+            account,
+            security,
+            index,
+        })
+    }
+
+    fn free_of(&self, line: Line) -> u64 {
+        after(
+            self.opening.free(line.account, line.security),
+            self.movements[line.index].free,
+        )
+    }
+
+    fn reserved_of(&self, line: Line) -> u64 {
+        after(
+            self.opening.reserved(line.account, line.security),
+            self.movements[line.index].reserved,
+        )
     }
 
     // Two settings and not one of both numbers: a credit or a debit says nothing of the reserved one.
-    fn set_free(&mut self, _key: MovementKey, account: usize, security: usize, number: u64) {
-        if let Some(index) = self.place(account, security) {
-            self.movements[index].free = towards(self.opening.free(account, security), number);
-        }
+    fn set_free(&mut self, _key: MovementKey, line: Line, number: u64) {
+        let movement = towards(self.opening.free(line.account, line.security), number);
+        self.movements[line.index].free = movement;
     }
 
-    fn set_reserved(&mut self, _key: MovementKey, account: usize, security: usize, number: u64) {
-        if let Some(index) = self.place(account, security) {
-            self.movements[index].reserved = towards(
-                self.opening.reserved(account, security),
-                number,
-            );
-        }
+    fn set_reserved(&mut self, _key: MovementKey, line: Line, number: u64) {
+        let movement = towards(self.opening.reserved(line.account, line.security), number);
+        self.movements[line.index].reserved = movement;
     }
 }

@@ -1,7 +1,8 @@
 -- What is read off the places.
-use Rattle.std.proofs.Common.{◌≡◌, ℕ, zero, suc, ◌+◌, ◌<◌, ◌≤◌, Bool, true, false, List, [], ◌∷◌, length, get_or, is_some, Some, None, Option, sym, refl, ap, ◌∙◌, arith}
-use Rattle.std.proofs.lemmas.Bool.{and_parts, false≢true}
-use Rattle.std.proofs.lemmas.List.Sums.{prefix_len_is}
+use Rattle.std.proofs.Common.{◌≡◌, ℕ, zero, suc, ◌+◌, ◌<◌, ◌≤◌, Bool, true, false, List, [], ◌∷◌, length, get_or, take, drop, is_some, Some, None, Option, sym, refl, ap, ◌∙◌, ⊎_elim, arith}
+use Rattle.std.proofs.lemmas.Bool.{and_parts, both_ways, cases_lt, false≢true}
+use Rattle.std.proofs.lemmas.List.{get_or-drop, get_or-take, length-drop, length-take}
+use Rattle.std.proofs.lemmas.List.Sums.{prefix_len-le-length, prefix_len_is, prefix_len_passes, prefix_len_stops}
 use Rattle.std.specs.List.{list_all, prefix_len}
 use Rattle.std.specs.List.Sorted.{IsPartitionedBy, IsPartitionPoint}
 use Rattle.ordered.specs.Places.{TotalOrder, ascending, first, full, packed, records, vacant}
@@ -54,3 +55,47 @@ module _ {X : Type 0} (lt : X → X → Bool) (o : TotalOrder lt) (x : X) where
 pub rank_is : {X : Type 0} (lt : X → X → Bool) (x : X) (ps : List (Option X)) (i : ℕ) → i ≤ length ps → IsPartitionPoint (λ p. held_before lt x p ≡ true) (λ p. held_before lt x p ≡ false) ps i → i ≡ rank lt x (records ps)
 rank_is lt x ps i h w =
     sym (prefix_len_is (held_before lt x) ps i None h (λ k l. w.0 k None (omega arith) l) (λ l. w.1 i None (omega arith) l)) ∙ ranked lt x ps
+
+-- how far the place of x is, by one place that is asked
+module _ {X : Type 0} (lt : X → X → Bool) (x : X) (ps : List (Option X)) where
+  pub rank_in_places : rank lt x (records ps) ≤ length ps
+  rank_in_places = omega (arith, ranked lt x ps, prefix_len-le-length (held_before lt x) ps)
+
+  module _ (k : ℕ) (q : Option X) (a : q ≡ get_or ps k q) where
+    pub rank_stops : held_before lt x q ≡ false → rank lt x (records ps) ≤ k
+    rank_stops e =
+        ⊎_elim
+        (λ (h : k < rank lt x (records ps)). absurd (both_ways (held_before lt x q) e (ap (held_before lt x) a ∙ prefix_len_passes (held_before lt x) ps k q (omega (arith, ranked lt x ps)))))
+        (λ h. h)
+        (cases_lt k (rank lt x (records ps)))
+
+    pub rank_passes : IsPartitionedBy (held_before lt x) ps → k < length ps → held_before lt x q ≡ true → k < rank lt x (records ps)
+    rank_passes w l e =
+        let n = prefix_len (held_before lt x) ps in
+        ⊎_elim
+        (λ (h : k < n). omega (arith, ranked lt x ps))
+        (λ (h : n ≤ k). absurd (both_ways (held_before lt x (get_or ps n q)) (prefix_len_stops (held_before lt x) ps q (omega arith)) (w n k q h l (ap (held_before lt x) (sym a) ∙ e))))
+        (cases_lt k n)
+
+-- the place of x, where it is among the n places from low on
+module _ {X : Type 0} (lt : X → X → Bool) (x : X) where
+  rank_front : (ps : List (Option X)) (n : ℕ) → rank lt x (records ps) ≤ n → rank lt x (records (take n ps)) ≡ rank lt x (records ps)
+  rank_front [] zero h = refl
+  rank_front [] (suc n) h = refl
+  rank_front (None ∷ ps) zero h = refl
+  rank_front (None ∷ ps) (suc n) h = refl
+  rank_front (Some y ∷ ps) zero h = omega arith
+  rank_front (Some y ∷ ps) (suc n) h = let i = rank_front ps n in grind arith
+
+  pub rank_part : (ps : List (Option X)) (low n : ℕ) → low ≤ rank lt x (records ps) → rank lt x (records ps) ≤ low + n → low + rank lt x (records (take n (drop low ps))) ≡ rank lt x (records ps)
+  rank_part ps zero n a b = omega (arith, rank_front ps n (omega arith))
+  rank_part [] (suc low) n a b = absurd (omega arith)
+  rank_part (None ∷ ps) (suc low) n a b = absurd (omega arith)
+  rank_part (Some y ∷ ps) (suc low) n a b = let i = rank_part ps low n in grind arith
+
+pub partitioned_part : {X : Type 0} (p : X → Bool) (xs : List X) (low n : ℕ) → IsPartitionedBy p xs → IsPartitionedBy p (take n (drop low xs))
+partitioned_part {X} p xs low n w i j d le h e =
+    let l : length (take n (drop low xs)) ≤ n = omega (arith, length-take n (drop low xs)) in
+    let m : low + j < length xs = omega (arith, length-take n (drop low xs), length-drop low xs) in
+    let at : (k : ℕ) → k < n → get_or (take n (drop low xs)) k d ≡ get_or xs (low + k) d = λ k g. get_or-take n (drop low xs) k d g ∙ get_or-drop low xs k d in
+    ap p (at i (omega arith)) ∙ w (low + i) (low + j) d (omega arith) m (ap p (sym (at j (omega arith))) ∙ e)

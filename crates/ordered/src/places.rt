@@ -1,5 +1,5 @@
 //! The work on the places of memory, each of which holds a record or none.
-ghost use Rattle.std.specs.Prelude.{Bool, ◌≡◌, ◌<◌, ◌≤◌, [], length, take, Some, None, Ok, Err, filter, MatchResult, slice_index_or, slice_set};
+ghost use Rattle.std.specs.Prelude.{Bool, ◌≡◌, ◌<◌, ◌≤◌, ℕ, ◌/◌, ◌^◌, [], length, take, Some, None, Ok, Err, filter, MatchResult, slice_index_or, slice_set};
 ghost use Rattle.ordered.specs.Answers.{equal_to, put_answer, Put, Replaced, Taken};
 ghost use Rattle.ordered.specs.Places.{alike, full, present, records, Ordered};
 ghost use Rattle.ordered.specs.Ranks.{held_before, rank, Fits};
@@ -63,12 +63,34 @@ fn is_equal_at<T: Ranked>(places: &[Option<T>], place: usize, item: &T) -> bool
     record_at(places, place).is_some_and(|held| is_alike(item, held))
 }
 
-// How many records come before an item: the place where it belongs.
+// The least power of two that is greater than the place of an item.
+#[tactic(auto, using(crate::proofs::Reading::rank_in_places))]
+fn reach_of<T: Ranked>(places: &[Option<T>], item: &T) -> usize
+    requires { Ordered T.precedes places.now }
+    ensures power { (k : ℕ) × (result ≡ 2 ^ k) }
+    ensures past { rank T.precedes item.now (records places.now) < result }
+    ensures half { result / 2 ≤ rank T.precedes item.now (records places.now) }
+{
+    // No method of a slice searches it from the front by doubling.
+    let mut reach = 1;
+    while reach <= places.len() && holds_before(&places[reach - 1], item) {
+        reach *= 2;
+    }
+    reach
+}
+
+// How many records come before an item: the place where it belongs. The front that is searched doubles until it ends behind that
+// place, so that a place near the front of a long list is found at once.
+#[tactic(auto, using(crate::proofs::Reading::rank_in_places))]
 fn rank_of<T: Ranked>(places: &[Option<T>], item: &T) -> usize
     requires { Ordered T.precedes places.now }
     ensures { result ≡ rank T.precedes item.now (records places.now) }
 {
-    places.partition_point(|place| holds_before(place, item))
+    // The records before `low` come before the item, and none from `high` on does.
+    let reach = reach_of(places, item);
+    let low = reach / 2;
+    let high = (reach - 1).min(places.len());
+    low + places[low..high].partition_point(|place| holds_before(place, item))
 }
 
 // Whether a record equal in the order stands there: it would stand where the item belongs.

@@ -9,7 +9,10 @@ abbrev pub Asked : {X : Type 0} → Question → X → Result X Refusal → Type
 Asked q v (Ok w) = (q.1 ≡ true) × (w ≡ v)
 Asked q v (Err r) = (q.1 ≡ false) × (r ≡ q.0)
 
--- The security, the account and the security exist: has_security and has_line of a register alone.
+-- The account, the security, and both exist: has_security and has_line of a register alone.
+abbrev pub account_in : Holdings → ℕ → Bool
+account_in h a = nat_lt a h.accounts
+
 abbrev pub security_in : Holdings → ℕ → Bool
 security_in h s = nat_lt s h.securities
 

@@ -5,7 +5,7 @@ ghost use Rattle.std.specs.Prelude.{nat_lt};
 ghost use Rattle.definitions.specs.Limits.{within};
 ghost use Rattle.definitions.specs.Questions.{has_agent, opened_in};
 ghost use Rattle.definitions.specs.States.{kept_of};
-ghost use Rattle.questions.specs.Asked.{Asked, line_in, security_in};
+ghost use Rattle.questions.specs.Asked.{Asked, account_in, line_in, security_in};
 
 use register::Register;
 use std::ops::RangeBounds;
@@ -39,6 +39,13 @@ pub fn agent(ledger: &Ledger, number: u64) -> Result<usize, Refusal>
     ensures { Asked (Refusal.Unknown, has_agent number) number result }
 {
     place(number, ledger.agents.len())
+}
+
+/// Is there an account with this number? It answers the account's place.
+pub fn account<R: Register>(register: &R, number: u64) -> Result<usize, Refusal>
+    ensures { Asked (Refusal.Unknown, account_in (R.holdings register.now) number) number result }
+{
+    place(number, register.accounts())
 }
 
 /// Is there a security with this number? It answers the security's place.

@@ -26,10 +26,19 @@ free_credited h a s q lt = omega (arith, sum_put h.accounts h.free a s (h.free a
 pub free_debited : (h : Holdings) (a s q : ℕ) → a < h.accounts → q ≤ h.free a s → sum_free (debited h a s q) s + q ≡ sum_free h s
 free_debited h a s q lt le = omega (arith, sum_put h.accounts h.free a s (h.free a s - q) lt)
 
+pub free_held : (h : Holdings) (a s q : ℕ) → a < h.accounts → q ≤ h.free a s → sum_free (held h a s q) s + q ≡ sum_free h s
+free_held h a s q lt le = free_debited h a s q lt le
+
+pub free_released : (h : Holdings) (a s q : ℕ) → a < h.accounts → sum_free (released h a s q) s ≡ sum_free h s + q
+free_released h a s q lt = free_credited h a s q lt
+
 -- Another security's sums.
 
 pub free_elsewhere : (h : Holdings) (a s v t : ℕ) → (s ≡ t → ⊥) → sum_free (with_free h a s v) t ≡ sum_free h t
 free_elsewhere h a s v t ne = sum_elsewhere h.accounts h.free a s v t ne
+
+pub reserved_elsewhere : (h : Holdings) (a s v t : ℕ) → (s ≡ t → ⊥) → sum_reserved (with_reserved h a s v) t ≡ sum_reserved h t
+reserved_elsewhere h a s v t ne = sum_elsewhere h.accounts h.reserved a s v t ne
 
 pub total_elsewhere : (h : Holdings) (a s v t : ℕ) → (s ≡ t → ⊥) → total_of (with_free h a s v) t ≡ total_of h t
 total_elsewhere h a s v t ne =

@@ -5,4 +5,5 @@ pub mod Numerals
 pub mod Rests
 pub mod Spellings
 pub mod Splits
+pub mod Unnamed
 pub mod Untils

@@ -19,6 +19,7 @@ pub enum Verb {
 }
 
 // The verb that the word names, if it names one.
+#[tactic(auto, using(crate::proofs::Spellings::spelt_like))]
 pub(crate) fn verb_of(word: &[u8]) -> Option<Verb>
     ensures { result ≡ verb_named word.now }
 {

@@ -1,4 +1,4 @@
-use Rattle.std.proofs.Common.{◌<◌, arith}
+use Rattle.std.proofs.Common.{◌<◌, refl, arith}
 use Rattle.register.specs.Holdings.{Inside}
 use Rattle.image.specs.Image.{imaged, accounts_of, securities_of}
 use Rattle.image.specs.Zero.{imaged_outside}
@@ -20,12 +20,15 @@ returns c =
     let counts = c.counts_in-accounts.ensures in
     let la : c.args.account < accounts_of bs = omega arith in
     let ls : c.args.security < securities_of bs = omega arith in
-    let fits = room bs c.args.account c.args.security la ls in
-    record {
-      account = la;
-      security = ls;
-      free_at = rw counts.securities;
-      reserved_at = rw (counts.accounts, counts.securities);
-      free_room = rw counts.securities (omega (arith, fits));
-      reserved_room = rw (counts.accounts, counts.securities) (omega (arith, fits));
-    }
+    let fits = room bs c.args.account c.args.security la ls in (
+      record {
+        account = la;
+        security = ls;
+        free_at = rw counts.securities;
+        reserved_at = rw (counts.accounts, counts.securities);
+        free_room = rw counts.securities (omega (arith, fits));
+        reserved_room = rw (counts.accounts, counts.securities) (omega (arith, fits));
+      },
+      refl,
+      refl,
+    )
